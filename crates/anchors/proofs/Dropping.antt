@@ -22,7 +22,7 @@ use Rattle.shared_words.specs.Seats.{IsMemberSeat, IsSameSeat, member_of}
 use Rattle.shared_words.specs.Processes.{AreCopied}
 use Rattle.shared_words.specs.Slots.{FitsAnchor, MayStoreSlot, with_slot}
 use Rattle.shared_words.proofs.ShownMembers.{there_is, within_get}
-use Rattle.anchors.specs.Holds.{view_of, anchors_of, names_for, Holds, MayRun, AnchorsApart}
+use Rattle.anchors.specs.Holds.{view_of, anchors_of, names_for, HoldsAnchors, MayRun, AnchorsApart}
 use Rattle.anchors.specs.Drops.{AnchorsStored, IsWordWithout, HasDroppedAt, HasDropped}
 use Rattle.anchors.proofs.Holding.{may_store, anchors_stored}
 use Rattle.anchors.proofs.Stored.{set_again, set_here, none_stored, one_stored, more_stored, run_still}
@@ -40,7 +40,7 @@ module _ (p : Published) (anchors : List ℕ) (place serial rest : ℕ) (kind : 
   here : slice_get anchors place ≡ Some (word_at anchors place)
   here = there_is anchors place 0 within
 
-  before : (k : Kind) (s : ℕ) → names_for k rest s ≡ true → Holds k anchors s
+  before : (k : Kind) (s : ℕ) → names_for k rest s ≡ true → HoldsAnchors k anchors s
   before k s named = record { place = place; word = word_at anchors place; at = here; passes = ((h.names k s).0 named).0 }
 
   pub drop_fits : ((s : ℕ) → tells_kill (word_at anchors place) s ≡ false) → FitsAnchor p anchors place rest
@@ -135,7 +135,7 @@ module _ (kind : Kind) (serial n : ℕ) (old new : List ℕ) (h : DroppedBefore 
   became : (place word : ℕ) → slice_get old place ≡ Some word → (rest : ℕ) × (slice_get new place ≡ Some rest) × IsWordWithout word serial kind rest
   became place word at = h.before place word at (let within = within_get old place word at in omega (arith, within, late))
 
-  pub dropped_names : (k : Kind) (s : ℕ) → Holds k new s ↔ (Holds k old s × ((k ≡ kind) × (s ≡ serial) → ⊥))
+  pub dropped_names : (k : Kind) (s : ℕ) → HoldsAnchors k new s ↔ (HoldsAnchors k old s × ((k ≡ kind) × (s ≡ serial) → ⊥))
   dropped_names k s = (
     λ held.
         let was = came_of held.place held.word held.at in

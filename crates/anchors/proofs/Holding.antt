@@ -20,7 +20,7 @@ use Rattle.shared_words.specs.Views.{published_at}
 use Rattle.shared_words.specs.Seats.{member_of}
 use Rattle.shared_words.specs.Slots.{IsOfArea, FitsAnchor, FitsSlot, MayStoreSlot, with_slot}
 use Rattle.shared_words.proofs.AnchorStores.{process_here}
-use Rattle.anchors.specs.Holds.{anchors_of, IsPlaceFor, HasNoPlace, names_for, Holds, MayRun, IsUnkilled, MayReach, MayHold, AreOthers, AnchorsApart, HasHeld, IsNamedWord}
+use Rattle.anchors.specs.Holds.{anchors_of, IsPlaceFor, HasNoPlace, names_for, HoldsAnchors, MayRun, IsUnkilled, MayReach, MayHold, AreOthers, AnchorsApart, HasHeld, IsNamedWord}
 use Rattle.anchors.proofs.Apart.{stored_apart}
 
 -- ---- the word
@@ -39,16 +39,16 @@ module _ (anchors : List ℕ) (serial place word : ℕ) (h : IsPlaceFor anchors 
 
 -- ---- the store
 
-module _ (p : Published) (anchors : List ℕ) (serial place word named : ℕ) (kind : Kind) (h : IsPlaceFor anchors serial place) (is : word ≡ word_at anchors (place - 1)) (unkilled : IsUnkilled anchors) (may : Holds kind anchors serial ⊎ MayReach kind p anchors serial) (becomes : IsNamedWord word serial kind named) where
+module _ (p : Published) (anchors : List ℕ) (serial place word named : ℕ) (kind : Kind) (h : IsPlaceFor anchors serial place) (is : word ≡ word_at anchors (place - 1)) (unkilled : IsUnkilled anchors) (may : HoldsAnchors kind anchors serial ⊎ MayReach kind p anchors serial) (becomes : IsNamedWord word serial kind named) where
   -- what it named it names
-  old_name : (k : Kind) (s : ℕ) → names_for k word s ≡ true → Holds k anchors s
+  old_name : (k : Kind) (s : ℕ) → names_for k word s ≡ true → HoldsAnchors k anchors s
   old_name k s passes = record { place = place - 1; word = word; at = here anchors serial place word h is; passes = passes }
 
-  frame_named : (k : Kind) (s : ℕ) → k ≡ Frame → Holds k anchors s ⊎ MayReach k p anchors s → HasAnchor names_frame anchors s ⊎ (is_current p s ≡ true)
+  frame_named : (k : Kind) (s : ℕ) → k ≡ Frame → HoldsAnchors k anchors s ⊎ MayReach k p anchors s → HasAnchor names_frame anchors s ⊎ (is_current p s ≡ true)
   frame_named Frame s same reach = reach
   frame_named Literal s same reach = absurd (cc)
 
-  literal_named : (k : Kind) (s : ℕ) → k ≡ Literal → Holds k anchors s ⊎ MayReach k p anchors s → HasAnchor names_literal anchors s ⊎ ((is_key_area p s ≡ true) ⊎ HasAnchor names_frame anchors s)
+  literal_named : (k : Kind) (s : ℕ) → k ≡ Literal → HoldsAnchors k anchors s ⊎ MayReach k p anchors s → HasAnchor names_literal anchors s ⊎ ((is_key_area p s ≡ true) ⊎ HasAnchor names_frame anchors s)
   literal_named Literal s same reach = reach
   literal_named Frame s same reach = absurd (cc)
 
@@ -77,7 +77,7 @@ module _ (p : Published) (anchors : List ℕ) (serial place word named : ℕ) (k
   }
 
   -- what the slot names after it
-  pub stored_names : (k : Kind) (s : ℕ) → Holds k (slice_set anchors (place - 1) named) s ↔ (Holds k anchors s ⊎ ((k ≡ kind) × (s ≡ serial)))
+  pub stored_names : (k : Kind) (s : ℕ) → HoldsAnchors k (slice_set anchors (place - 1) named) s ↔ (HoldsAnchors k anchors s ⊎ ((k ≡ kind) × (s ≡ serial)))
   stored_names k s = (before, after)
     where
       names : (names_for k named s ≡ true) ↔ ((names_for k word s ≡ true) ⊎ ((k ≡ kind) × (s ≡ serial)))
@@ -91,23 +91,23 @@ module _ (p : Published) (anchors : List ℕ) (serial place word named : ℕ) (k
           set_here (z ∷ zs) zero x y at = refl
           set_here (z ∷ zs) (suc i) x y at = set_here zs i x y at
 
-      before : Holds k (slice_set anchors (place - 1) named) s → Holds k anchors s ⊎ ((k ≡ kind) × (s ≡ serial))
+      before : HoldsAnchors k (slice_set anchors (place - 1) named) s → HoldsAnchors k anchors s ⊎ ((k ≡ kind) × (s ≡ serial))
       before held =
-          elim (slice_get-slice_set anchors (place - 1) named held.place held.word held.at) as (λ _. Holds k anchors s ⊎ ((k ≡ kind) × (s ≡ serial))) [
+          elim (slice_get-slice_set anchors (place - 1) named held.place held.word held.at) as (λ _. HoldsAnchors k anchors s ⊎ ((k ≡ kind) × (s ≡ serial))) [
             | inl this ↦
-                elim (names.0 (ap (λ (x : ℕ). names_for k x s) (sym this.1) ∙ held.passes)) as (λ _. Holds k anchors s ⊎ ((k ≡ kind) × (s ≡ serial))) [
+                elim (names.0 (ap (λ (x : ℕ). names_for k x s) (sym this.1) ∙ held.passes)) as (λ _. HoldsAnchors k anchors s ⊎ ((k ≡ kind) × (s ≡ serial))) [
                   | inl old ↦ inl (old_name k s old)
                   | inr new ↦ inr new
                 ]
             | inr other ↦ inl (record { place = held.place; word = held.word; at = other.1; passes = held.passes })
           ]
 
-      named_now : (names_for k word s ≡ true) ⊎ ((k ≡ kind) × (s ≡ serial)) → Holds k (slice_set anchors (place - 1) named) s
+      named_now : (names_for k word s ≡ true) ⊎ ((k ≡ kind) × (s ≡ serial)) → HoldsAnchors k (slice_set anchors (place - 1) named) s
       named_now was = record { place = place - 1; word = named; at = there; passes = names.1 was }
 
-      after : Holds k anchors s ⊎ ((k ≡ kind) × (s ≡ serial)) → Holds k (slice_set anchors (place - 1) named) s
+      after : HoldsAnchors k anchors s ⊎ ((k ≡ kind) × (s ≡ serial)) → HoldsAnchors k (slice_set anchors (place - 1) named) s
       after was =
-          elim was as (λ _. Holds k (slice_set anchors (place - 1) named) s) [
+          elim was as (λ _. HoldsAnchors k (slice_set anchors (place - 1) named) s) [
             | inl held ↦
                 dite (ℕ_discrete held.place (place - 1))
                 (λ (this : held.place ≡ place - 1). named_now (inl (ap (λ (x : ℕ). names_for k x s) (same_place held this) ∙ held.passes)))
@@ -115,7 +115,7 @@ module _ (p : Published) (anchors : List ℕ) (serial place word named : ℕ) (k
             | inr pair ↦ named_now (inr pair)
           ]
         where
-          same_place : (held : Holds k anchors s) → held.place ≡ place - 1 → word ≡ held.word
+          same_place : (held : HoldsAnchors k anchors s) → held.place ≡ place - 1 → word ≡ held.word
           same_place held this = is ∙ ap (λ (i : ℕ). word_at anchors i) (sym this) ∙ ap (λ (o : Option ℕ). unwrap_or o 0) held.at
 
   -- it tells of no kill after it
@@ -169,7 +169,7 @@ held_now old v process serial place word named kind unkilled may h is becomes vi
     let after : anchors_of (member_of v) process ≡ slice_set (anchors_of old process) (place - 1) named = ap (λ (x : View). anchors_of (member_of x) process) view ∙ anchors_stored old process place named first in
     record {
       stored = inr (record { place = place - 1; word = named; view = ap member_of view ∙ ap (λ (i : ℕ). with_slot process i named old) next });
-      names = λ k s. subst (λ (xs : List ℕ). Holds k xs s ↔ (Holds k (anchors_of old process) s ⊎ ((k ≡ kind) × (s ≡ serial)))) (sym after) (names k s);
+      names = λ k s. subst (λ (xs : List ℕ). HoldsAnchors k xs s ↔ (HoldsAnchors k (anchors_of old process) s ⊎ ((k ≡ kind) × (s ≡ serial)))) (sym after) (names k s);
       unkilled = subst IsUnkilled (sym after) (stored_unkilled p (anchors_of old process) serial place word named kind h is unkilled may becomes);
       apart = λ apart. subst AnchorsApart (sym after) (stored_apart p (anchors_of old process) (place - 1) named word (here (anchors_of old process) serial place word h is) (hold_fits p (anchors_of old process) serial place word named kind h is unkilled may becomes) apart);
     }
@@ -180,7 +180,7 @@ held_before old process serial place word named kind unkilled h is becomes same 
   stored = inl refl;
   names = λ k s. (
     λ held. inl held,
-    λ was. elim was as (λ _. Holds k (anchors_of old process) s) [
+    λ was. elim was as (λ _. HoldsAnchors k (anchors_of old process) s) [
       | inl held ↦ held
       | inr pair ↦ record {
         place = place - 1;

@@ -12,14 +12,14 @@ use Rattle.shared_words.specs.declared.seats.Writer as tokens
 use Rattle.shared_words.specs.declared.view.WriterView.{WriterView}
 use Rattle.shared_words.specs.declared.view.View.{View}
 use Rattle.shared_words.specs.declared.view.View.TheVariants.{Writer}
-use Rattle.shared_words.specs.Seats.{Place, IsSameSeat, IsWriterSeat, writer_of}
+use Rattle.shared_words.specs.Seats.{SeatPlace, IsSameSeat, IsWriterSeat, writer_of}
 use Rattle.shared_words.specs.Slots.{look_kind, LookMayBegin, wait_for, wait_looked, slot_looked}
 use Rattle.shared_words.proofs.SlotFrames.{ended_as}
 use Rattle.anchors.specs.Scans.{scan_wait, LooksMore, IsSlotNamed}
 use Rattle.anchors.proofs.Scanning.{same_wait, SlotLooked, turn_looked, anchor_clear, anchor_named}
 
 -- two steps leave the same seat
-pub same_again : (a b c : Place) → IsSameSeat a b → IsSameSeat b c → IsSameSeat a c
+pub same_again : (a b c : SeatPlace) → IsSameSeat a b → IsSameSeat b c → IsSameSeat a c
 same_again a b c first second = record {
   same_table = second.same_table ∙ first.same_table;
   same_number = second.same_number ∙ first.same_number;

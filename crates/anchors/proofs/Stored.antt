@@ -8,7 +8,7 @@ use Rattle.shared_words.specs.declared.opening.Opening.{Opening}
 use Rattle.shared_words.specs.declared.view.MemberView.{MemberView}
 use Rattle.shared_words.specs.declared.view.View.{View}
 use Rattle.shared_words.specs.declared.view.View.TheVariants.{Member}
-use Rattle.shared_words.specs.Seats.{Place, IsSameSeat, IsMemberSeat, member_of}
+use Rattle.shared_words.specs.Seats.{SeatPlace, IsSameSeat, IsMemberSeat, member_of}
 use Rattle.shared_words.specs.Processes.{process_of}
 use Rattle.shared_words.specs.Slots.{with_slot}
 use Rattle.shared_words.proofs.AnchorStores.{process_here, process_else}
@@ -69,7 +69,7 @@ run_still opening process other old new stored run =
 -- ---- tokens
 
 -- a member's seat is one after the store
-pub seat_still : (table : TableId) (number after : ℕ) (old new : Place) (process place value : ℕ) → IsMemberSeat table number old → IsSameSeat old new → after ≡ number → new.me.0 ≡ Member (with_slot process place value (member_of old.me.0)) → IsMemberSeat table after new
+pub seat_still : (table : TableId) (number after : ℕ) (old new : SeatPlace) (process place value : ℕ) → IsMemberSeat table number old → IsSameSeat old new → after ≡ number → new.me.0 ≡ Member (with_slot process place value (member_of old.me.0)) → IsMemberSeat table after new
 seat_still table number after old new process place value h same numbered view = record {
   few = (let few = h.few in omega (arith, few, numbered));
   of_table = record { same_table = same.same_table ∙ h.of_table.same_table; no_slots = same.same_slots ∙ h.of_table.no_slots };

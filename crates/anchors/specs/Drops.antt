@@ -5,13 +5,13 @@ use Rattle.std.specs.Prelude.{◌≡◌, ◌≢◌, ℕ, ◌+◌, ◌-◌, ◌*�
 use Rattle.term_core.specs.declared.hold.Kind.{Kind}
 use Rattle.area_core.specs.declared.map.TheConstants.{ANCHORS}
 use Rattle.area_core.specs.Map.{word_at}
-use Rattle.area_core.specs.Generations.{is_doomed, serial_in, names_frame}
+use Rattle.area_core.specs.Generations.{is_doomed_area, serial_in, names_frame}
 use Rattle.marks.specs.Names.{HasAnchor, tells_kill}
 use Rattle.shared_words.specs.declared.view.MemberView.{MemberView}
 use Rattle.shared_words.specs.Views.{published_at}
 use Rattle.shared_words.specs.Processes.{process_of}
 use Rattle.shared_words.specs.Slots.{with_slot}
-use Rattle.anchors.specs.Holds.{anchors_of, names_for, Holds, AnchorsApart}
+use Rattle.anchors.specs.Holds.{anchors_of, names_for, HoldsAnchors, AnchorsApart}
 
 -- anchors of the process were stored, and else nothing
 pub record AnchorsStored (process : ℕ) (old new : MemberView) : Type 0 where
@@ -39,7 +39,7 @@ pub record HasDroppedAt (process : ℕ) (kind : Kind) (serial place : ℕ) (old 
 -- one area
 pub record HasDropped (process : ℕ) (kind : Kind) (serial : ℕ) (old new : MemberView) : Type 0 where
   pub stored : AnchorsStored process old new
-  pub names : (k : Kind) (s : ℕ) → Holds k (anchors_of new process) s ↔ (Holds k (anchors_of old process) s × ((k ≡ kind) × (s ≡ serial) → ⊥))
+  pub names : (k : Kind) (s : ℕ) → HoldsAnchors k (anchors_of new process) s ↔ (HoldsAnchors k (anchors_of old process) s × ((k ≡ kind) × (s ≡ serial) → ⊥))
   pub kills : (s : ℕ) → HasAnchor tells_kill (anchors_of new process) s ↔ HasAnchor tells_kill (anchors_of old process) s
   pub apart : AnchorsApart (anchors_of old process) → AnchorsApart (anchors_of new process)
 
@@ -55,7 +55,7 @@ pub record IsFrameAt (anchors : List ℕ) (serial place : ℕ) : Type 0 where
 
 -- the instance is doomed in the generation that the member holds
 abbrev pub IsDoomed : ℕ → MemberView → Type 0
-IsDoomed serial m = is_doomed (published_at m.seen m.member.generation) serial ≡ true
+IsDoomed serial m = is_doomed_area (published_at m.seen m.member.generation) serial ≡ true
 
 -- an anchor that named the instance for a frame was stored, and now tells that it killed the process; that is the one store
 pub record HasKilled (process serial : ℕ) (old new : MemberView) : Type 0 where

@@ -71,8 +71,8 @@ names_for Frame word serial = names_frame word serial
 names_for Literal word serial = names_literal word serial
 
 -- the anchors name the area for this
-abbrev pub Holds : Kind → List ℕ → ℕ → Type 0
-Holds kind anchors serial = HasAnchor (names_for kind) anchors serial
+abbrev pub HoldsAnchors : Kind → List ℕ → ℕ → Type 0
+HoldsAnchors kind anchors serial = HasAnchor (names_for kind) anchors serial
 
 -- a turn of the process may be made by the member: the process is its own, it is awake, and the note of the process came with
 -- no later generation than it holds
@@ -94,7 +94,7 @@ MayReach Literal p anchors serial = (is_key_area p serial ≡ true) ⊎ HasAncho
 
 -- the process names the area already, or may reach it
 abbrev pub MayHold : ℕ → Kind → ℕ → MemberView → Type 0
-MayHold process kind serial m = Holds kind (anchors_of m process) serial ⊎ MayReach kind (published_at m.seen m.member.generation) (anchors_of m process) serial
+MayHold process kind serial m = HoldsAnchors kind (anchors_of m process) serial ⊎ MayReach kind (published_at m.seen m.member.generation) (anchors_of m process) serial
 
 -- each anchor names another area
 abbrev pub AreOthers : List ℕ → ℕ → Type 0
@@ -117,7 +117,7 @@ AnchorsApart anchors = (a b v w : ℕ) → slice_get anchors a ≡ Some v → sl
 -- the process names this besides what it named; no two anchors come to be of one area
 pub record HasHeld (process : ℕ) (kind : Kind) (serial : ℕ) (old new : MemberView) : Type 0 where
   pub stored : IsStored process old new
-  pub names : (k : Kind) (s : ℕ) → Holds k (anchors_of new process) s ↔ (Holds k (anchors_of old process) s ⊎ ((k ≡ kind) × (s ≡ serial)))
+  pub names : (k : Kind) (s : ℕ) → HoldsAnchors k (anchors_of new process) s ↔ (HoldsAnchors k (anchors_of old process) s ⊎ ((k ≡ kind) × (s ≡ serial)))
   pub unkilled : IsUnkilled (anchors_of new process)
   pub apart : AnchorsApart (anchors_of old process) → AnchorsApart (anchors_of new process)
 

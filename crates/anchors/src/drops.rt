@@ -4,7 +4,7 @@ ghost use Rattle.std.specs.Prelude.{◌≡◌, ◌≤◌};
 ghost use Rattle.shared_words.specs.declared.table.TheConstants.{ANCHORS};
 ghost use Rattle.shared_words.specs.Processes.{AreCopied};
 ghost use Rattle.shared_words.specs.Seats.{IsMemberSeat, IsSameSeat};
-ghost use Rattle.anchors.specs.Holds.{view_of, anchors_of, MayRun, Holds};
+ghost use Rattle.anchors.specs.Holds.{view_of, anchors_of, MayRun, HoldsAnchors};
 ghost use Rattle.anchors.specs.Drops.{IsWordWithout, HasDroppedAt, HasDropped};
 
 use shared_words::{ANCHORS, Member, Served, Shared};
@@ -68,7 +68,7 @@ pub fn drop_hold<N: Served>(
     requires token { IsMemberSeat shared.now.table.shared.table_id member.old.number member.old.seat }
     requires copied { AreCopied member.old.anchors.items (view_of member.old) }
     requires run { MayRun shared.now.table.shared.key process (view_of member.old) }
-    requires held { Holds kind (anchors_of (view_of member.old) process) area.serial }
+    requires held { HoldsAnchors kind (anchors_of (view_of member.old) process) area.serial }
     ensures token { IsMemberSeat shared.now.table.shared.table_id member.new.number member.new.seat }
     ensures same { IsSameSeat member.old.seat member.new.seat }
     ensures number { member.new.number ≡ member.old.number }

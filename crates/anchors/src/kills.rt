@@ -5,7 +5,7 @@ ghost use Rattle.term_core.specs.declared.hold.Kind.TheVariants.{Frame};
 ghost use Rattle.marks.specs.Names.{HasAnchor, tells_kill};
 ghost use Rattle.shared_words.specs.Processes.{AreCopied};
 ghost use Rattle.shared_words.specs.Seats.{IsMemberSeat, IsSameSeat};
-ghost use Rattle.anchors.specs.Holds.{view_of, anchors_of, MayRun, Holds};
+ghost use Rattle.anchors.specs.Holds.{view_of, anchors_of, MayRun, HoldsAnchors};
 ghost use Rattle.anchors.specs.Drops.{IsDoomed, HasKilled};
 
 use crate::places::frame_anchor;
@@ -24,7 +24,7 @@ pub fn kill<N: Served>(shared: &Shared<N>, member: &mut Member, process: u32, ar
     requires copied { AreCopied member.old.anchors.items (view_of member.old) }
     requires run { MayRun shared.now.table.shared.key process (view_of member.old) }
     // the instance has a frame of it, and is doomed
-    requires named { Holds Frame (anchors_of (view_of member.old) process) area.serial }
+    requires named { HoldsAnchors Frame (anchors_of (view_of member.old) process) area.serial }
     requires doomed { IsDoomed area.serial (view_of member.old) }
     // the token is as it was
     ensures token { IsMemberSeat shared.now.table.shared.table_id member.new.number member.new.seat }

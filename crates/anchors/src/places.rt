@@ -4,7 +4,7 @@ ghost use Rattle.std.specs.Prelude.{◌≡◌, ◌<◌, IfSome};
 ghost use Rattle.shared_words.specs.declared.table.TheConstants.{PROCESSES};
 ghost use Rattle.shared_words.specs.Processes.{AreCopied};
 ghost use Rattle.term_core.specs.declared.hold.Kind.TheVariants.{Frame};
-ghost use Rattle.anchors.specs.Holds.{view_of, anchors_of, StandsAt, StandsNowhere, IsFreeAt, HasNoFree, IsPlaceFor, HasNoPlace, Holds};
+ghost use Rattle.anchors.specs.Holds.{view_of, anchors_of, StandsAt, StandsNowhere, IsFreeAt, HasNoFree, IsPlaceFor, HasNoPlace, HoldsAnchors};
 ghost use Rattle.anchors.specs.Drops.{IsFrameAt};
 
 use shared_words::{ANCHORS, Member};
@@ -58,7 +58,7 @@ pub fn frame_anchor(member: &Member, process: u32, serial: u64) -> Option<u32>
     requires copied { AreCopied member.now.anchors.items (view_of member.now) }
     requires process { process < PROCESSES }
     ensures found { IfSome result (λ place. IsFrameAt (anchors_of (view_of member.now) process) serial place) }
-    ensures none { result ≡ None → Holds Frame (anchors_of (view_of member.now) process) serial → ⊥ }
+    ensures none { result ≡ None → HoldsAnchors Frame (anchors_of (view_of member.now) process) serial → ⊥ }
 {
     for place in 1..ANCHORS + 1 {
         let word = member.anchor(process, place);

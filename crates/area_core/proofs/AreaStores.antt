@@ -9,7 +9,7 @@ use Rattle.area_core.specs.declared.table.Published.{Published}
 use Rattle.area_core.specs.declared.table.KeptArea.{KeptArea}
 use Rattle.area_core.specs.declared.table.Table.{Table}
 use Rattle.area_core.specs.Map.{word_at, kind_at, retire_place, doom_place}
-use Rattle.area_core.specs.Generations.{is_retired, is_doomed, tells, agrees}
+use Rattle.area_core.specs.Generations.{is_retired_area, is_doomed_area, tells, are_alike}
 use Rattle.area_core.specs.Blocks.{Among}
 use Rattle.area_core.specs.Readers.{readable_generations}
 use Rattle.area_core.specs.Stores.{with_word, holds_in_block, may_be_doom}
@@ -42,7 +42,7 @@ stored_at s sound word value place within same =
 -- a retire word is stored that tells what each generation says of the area in its block
 pub retire_word_kept :
     (s : Table) → IsSound s → (word value block : ℕ) → kind_at word ≡ Retire block
-    → ((g : ℕ) (p : Published) → IsReadable s g → slice_get s.published g ≡ Some p → (k : KeptArea) → Among s.kept k → k.area.block ≡ block → tells value g ≡ is_retired p k.area.serial)
+    → ((g : ℕ) (p : Published) → IsReadable s g → slice_get s.published g ≡ Some p → (k : KeptArea) → Among s.kept k → k.area.block ≡ block → tells value g ≡ is_retired_area p k.area.serial)
     → IsSound (with_word s word value)
 retire_word_kept s sound word value block is tell =
     outside_kept s sound word value (Retire block) is (λ other at same. absurd (cc))
@@ -63,7 +63,7 @@ retire_word_kept s sound word value block is tell =
 -- a doom word is stored that tells what each generation says of the instance in its block
 pub doom_word_kept :
     (s : Table) → IsSound s → (word value block : ℕ) → kind_at word ≡ Doom block
-    → ((g : ℕ) (p : Published) → IsReadable s g → slice_get s.published g ≡ Some p → (k : KeptArea) → Among s.kept k → k.area.block ≡ block → is_retired p k.area.serial ≡ false → tells value g ≡ is_doomed p k.area.serial)
+    → ((g : ℕ) (p : Published) → IsReadable s g → slice_get s.published g ≡ Some p → (k : KeptArea) → Among s.kept k → k.area.block ≡ block → is_retired_area p k.area.serial ≡ false → tells value g ≡ is_doomed_area p k.area.serial)
     → IsSound (with_word s word value)
 doom_word_kept s sound word value block is tell =
     outside_kept s sound word value (Doom block) is (λ other at same. absurd (cc))
@@ -86,8 +86,8 @@ pub doom_stored : (s : Table) → IsSound s → (word value block : ℕ) → kin
 doom_stored s sound word value block is may = doom_word_kept s sound word value block is
     (λ g p counts here k among same unretired.
     let passes = in_block_passes s.kept block (may_be_doom s (readable_generations s.progress) value) k may among same in
-    let says = generation_passes s.published (readable_generations s.progress) (λ g p. is_retired p k.area.serial || agrees (tells value g) (is_doomed p k.area.serial)) g p passes (readable_held s.progress sound.progress g counts) here in
-    elim (or_cases (is_retired p k.area.serial) (agrees (tells value g) (is_doomed p k.area.serial)) says) as (λ _. tells value g ≡ is_doomed p k.area.serial) [
+    let says = generation_passes s.published (readable_generations s.progress) (λ g p. is_retired_area p k.area.serial || are_alike (tells value g) (is_doomed_area p k.area.serial)) g p passes (readable_held s.progress sound.progress g counts) here in
+    elim (or_cases (is_retired_area p k.area.serial) (are_alike (tells value g) (is_doomed_area p k.area.serial)) says) as (λ _. tells value g ≡ is_doomed_area p k.area.serial) [
       | inl retired ↦ absurd (true≢false (sym retired ∙ unretired))
-      | inr agree ↦ agrees_same (tells value g) (is_doomed p k.area.serial) agree
+      | inr agree ↦ agrees_same (tells value g) (is_doomed_area p k.area.serial) agree
     ])

@@ -12,8 +12,8 @@ use Rattle.area_core.specs.declared.readers.Slots.TheVariants.{All}
 use Rattle.area_core.specs.declared.table.Published.{Published}
 use Rattle.area_core.specs.declared.table.KeptArea.{KeptArea}
 use Rattle.area_core.specs.declared.table.Table.{Table}
-use Rattle.area_core.specs.Map.{word_at, kind_at, block_place, breakpoint_at, entry_at}
-use Rattle.area_core.specs.Generations.{is_instance, is_traced, has_function, is_entry_word}
+use Rattle.area_core.specs.Map.{word_at, kind_at, block_place, breakpoint_at, image_entry_at}
+use Rattle.area_core.specs.Generations.{is_instance, is_traced_function, has_function, is_entry_word}
 use Rattle.area_core.specs.Blocks.{Among, RootFits, IsForInstances}
 use Rattle.area_core.specs.Readers.{readable_generations, is_read, is_read_under, reads_in_block, has_instance_in, slots_read}
 use Rattle.area_core.specs.Stores.{with_word, holds_in_block, is_untraced, may_be_entry, is_image_word, may_be_in_image, may_store_in_block}
@@ -53,7 +53,7 @@ pub block_word_kept :
     → ((g : ℕ) (p : Published) → IsReadable s g → slice_get s.published g ≡ Some p → RootFits p.root → (entry : ℕ) → entry < EXPORT_ENTRIES → InBlock block at ≡ InBlock p.root.code entry → ⊥)
     → ((g : ℕ) (p : Published) → IsReadable s g → slice_get s.published g ≡ Some p → RootFits p.root → (a : AreaRef) → Among p.areas a → IsTrue (is_instance p a.serial) → IsForInstances a.block → (function : ℕ) → function < FUNCTIONS → InBlock block at ≡ InBlock (BREAKPOINTS_START + p.root.bp) (breakpoint_at a.block function) → ⊥)
     → ((g : ℕ) (p : Published) → IsReadable s g → slice_get s.published g ≡ Some p → RootFits p.root → (place : ℕ) → place < BIG_WORDS → InBlock block at ≡ InBlock (TERMS_START + p.root.term) place → ⊥)
-    → ((g : ℕ) (p : Published) → IsReadable s g → slice_get s.published g ≡ Some p → (k : KeptArea) → Among s.kept k → (function : ℕ) → IsTrue (has_function k function) → InBlock block at ≡ InBlock k.area.block (entry_at function) → value ≡ 0 → is_traced p k.area.serial function ≡ false)
+    → ((g : ℕ) (p : Published) → IsReadable s g → slice_get s.published g ≡ Some p → (k : KeptArea) → Among s.kept k → (function : ℕ) → IsTrue (has_function k function) → InBlock block at ≡ InBlock k.area.block (image_entry_at function) → value ≡ 0 → is_traced_function p k.area.serial function ≡ false)
     → ((k : KeptArea) → Among s.kept k → (place old : ℕ) → slice_get k.words place ≡ Some old → is_entry_word k place ≡ false → InBlock block at ≡ InBlock k.area.block place → value ≡ old)
     → IsSound (with_word s word value)
 block_word_kept s sound word value block at is code breakpoints terms entries images = record {
@@ -66,7 +66,7 @@ block_word_kept s sound word value block at is code breakpoints terms entries im
     terms_stand = terms_after (blocks_of s) (IsReadable s) new (InBlock block at) off sound.blocks terms;
     used_kept = sound.blocks.used_kept;
     areas_stand = λ g p counts here k among. record {
-      entries = entries_after (blocks_of s) (IsReadable s) new (InBlock block at) off sound.blocks g p counts here k among (λ function has same none. entries g p counts here k among function has same (sym (stored k.area.block (entry_at function) same) ∙ none));
+      entries = entries_after (blocks_of s) (IsReadable s) new (InBlock block at) off sound.blocks g p counts here k among (λ function has same none. entries g p counts here k among function has same (sym (stored k.area.block (image_entry_at function) same) ∙ none));
       retired = retired_after (blocks_of s) (IsReadable s) new (InBlock block at) off sound.blocks g p counts here k among (λ same. absurd (cc));
       doomed = doomed_after (blocks_of s) (IsReadable s) new (InBlock block at) off sound.blocks g p counts here k among (λ same. absurd (cc));
     };
@@ -117,7 +117,7 @@ has_instance_at p a function at among instance high few is =
     some_passes (λ a. (a.block == 9 + at / 16) && is_instance p a.serial) p.areas among.0 a among.1 (and_from (a.block == 9 + at / 16) (is_instance p a.serial) (eq-eqb a.block (9 + at / 16) row) instance)
 
 -- the place of an entry word is that of one
-pub entry_is : (k : KeptArea) (function : ℕ) → IsTrue (has_function k function) → is_entry_word k (entry_at function) ≡ true
+pub entry_is : (k : KeptArea) (function : ℕ) → IsTrue (has_function k function) → is_entry_word k (image_entry_at function) ≡ true
 entry_is k function has =
     let back : (function * 4 + 6) / 4 - 1 ≡ function = omega (arith) in
     let rest : (function * 4 + 6) % 4 ≡ 2 = omega (arith) in
@@ -125,11 +125,11 @@ entry_is k function has =
     rw (le-leb 6 (function * 4 + 6) (omega (arith)), eq-eqb ((function * 4 + 6) % 4) 2 rest) own
 
 -- an entry word that may become 0 is that of a function that no thread may find traced
-pub untraced_after : (s : Table) (value serial function g : ℕ) (p : Published) → may_be_entry s (readable_generations s.progress) serial function value ≡ true → value ≡ 0 → list_any (λ x. x == g) (readable_generations s.progress) ≡ true → slice_get s.published g ≡ Some p → is_traced p serial function ≡ false
+pub untraced_after : (s : Table) (value serial function g : ℕ) (p : Published) → may_be_entry s (readable_generations s.progress) serial function value ≡ true → value ≡ 0 → list_any (λ x. x == g) (readable_generations s.progress) ≡ true → slice_get s.published g ≡ Some p → is_traced_function p serial function ≡ false
 untraced_after s value serial function g p may none among at =
-    elim (or_cases (not (value == 0)) (is_untraced s (readable_generations s.progress) serial function) may) as (λ _. is_traced p serial function ≡ false) [
+    elim (or_cases (not (value == 0)) (is_untraced s (readable_generations s.progress) serial function) may) as (λ _. is_traced_function p serial function ≡ false) [
       | inl other ↦ absurd (true≢false (sym (eq-eqb value 0 none) ∙ not-true (value == 0) other))
-      | inr untraced ↦ not-true (is_traced p serial function) (generation_passes s.published (readable_generations s.progress) (λ g p. not (is_traced p serial function)) g p untraced among at)
+      | inr untraced ↦ not-true (is_traced_function p serial function) (generation_passes s.published (readable_generations s.progress) (λ g p. not (is_traced_function p serial function)) g p untraced among at)
     ]
 
 -- the test of the entry word of a function
@@ -170,14 +170,14 @@ module _ (s : Table) (sound : IsSound s) (word value block at : ℕ) (is : kind_
       let term = root.term in
       unread g p counts here (reads_term p block at parts.0 (omega (arith, parts.0, term))))
       (λ g p counts here k among function has same none.
-      untraced_after s value k.area.serial function g p (may_entry k function has (in_image k among (entry_at function) same)) none (readable_held s.progress sound.progress g counts) here)
+      untraced_after s value k.area.serial function g p (may_entry k function has (in_image k among (image_entry_at function) same)) none (readable_held s.progress sound.progress g counts) here)
       (λ k among place old has plain same. plain_word k place old has plain (in_image k among place same))
     where
-      may_entry : (k : KeptArea) (function : ℕ) → IsTrue (has_function k function) → may_be_in_image s (readable_generations s.progress) (entry_at function) value k ≡ true → may_be_entry s (readable_generations s.progress) k.area.serial function value ≡ true
+      may_entry : (k : KeptArea) (function : ℕ) → IsTrue (has_function k function) → may_be_in_image s (readable_generations s.progress) (image_entry_at function) value k ≡ true → may_be_entry s (readable_generations s.progress) k.area.serial function value ≡ true
       may_entry k function has passes =
           let back : (function * 4 + 6) / 4 - 1 ≡ function = omega (arith) in
           ap (may_be_entry_of s value k) (sym back)
-          ∙ sym (cond-true (is_entry_word k (entry_at function)) (may_be_entry s (readable_generations s.progress) k.area.serial (entry_at function / 4 - 1) value) (is_image_word (slice_get k.words (entry_at function)) value) (entry_is k function has))
+          ∙ sym (cond-true (is_entry_word k (image_entry_at function)) (may_be_entry s (readable_generations s.progress) k.area.serial (image_entry_at function / 4 - 1) value) (is_image_word (slice_get k.words (image_entry_at function)) value) (entry_is k function has))
           ∙ passes
 
       plain_word : (k : KeptArea) (place old : ℕ) → slice_get k.words place ≡ Some old → is_entry_word k place ≡ false → may_be_in_image s (readable_generations s.progress) place value k ≡ true → value ≡ old

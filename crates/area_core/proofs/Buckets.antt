@@ -4,7 +4,7 @@ use Rattle.std.specs.Prelude.{◌==◌}
 use Rattle.std.specs.Option.{IfSome}
 use Rattle.std.proofs.lemmas.Bool.{eqb-true, cases_Bool}
 use Rattle.area_core.specs.declared.map.TheConstants.{BUCKETS}
-use Rattle.area_core.specs.Terms.{key_in, look_at, looked, outcome, bucket_of}
+use Rattle.area_core.specs.Terms.{key_in, look_at, looked, found_outcome, bucket_of}
 use Rattle.area_core.proofs.Counted.{looked_none, looked_suc}
 
 -- the bucket is one of the block, and has the key
@@ -53,7 +53,7 @@ looked_found block key bucket (suc n) e = by_known (looked block key n) refl (sy
 pub has_key : (block : ℕ → ℕ) (key bucket : ℕ) → bucket_of block key ≡ Some bucket → HasKey block key bucket
 has_key block key bucket e = looked_found block key bucket BUCKETS (known_bucket (looked block key BUCKETS) e)
   where
-    known_bucket : (known : Option (Option ℕ)) → outcome known ≡ Some bucket → known ≡ Some (Some bucket)
+    known_bucket : (known : Option (Option ℕ)) → found_outcome known ≡ Some bucket → known ≡ Some (Some bucket)
     known_bucket None e = absurd (cc)
     known_bucket (Some found) e = ap Some e
 
@@ -67,4 +67,4 @@ bucket_within block key = by_found (bucket_of block key) refl
 
 -- so is what is known after all buckets
 pub known_within : (block : ℕ → ℕ) (key : ℕ) (known : Option ℕ) → Some known ≡ looked block key BUCKETS → IfSome known (λ bucket. bucket < BUCKETS)
-known_within block key known is = subst (λ (found : Option ℕ). IfSome found (λ bucket. bucket < BUCKETS)) (sym (ap outcome is)) (bucket_within block key)
+known_within block key known is = subst (λ (found : Option ℕ). IfSome found (λ bucket. bucket < BUCKETS)) (sym (ap found_outcome is)) (bucket_within block key)

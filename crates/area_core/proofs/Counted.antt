@@ -7,10 +7,10 @@ use Rattle.area_core.specs.declared.map.TheConstants.{ANCHORS, BUCKETS}
 use Rattle.area_core.specs.declared.readers.Slots.{Slots}
 use Rattle.area_core.specs.declared.table.Published.{Published}
 use Rattle.area_core.specs.declared.table.KeptArea.{KeptArea}
-use Rattle.area_core.specs.Map.{opening_words, word_at, anchor_place, slot_place, block_place, breakpoint_place, entry_at}
-use Rattle.area_core.specs.Generations.{names, serial_in, names_frame, is_code_word, traced_word, has_function, is_traced, is_entry_word}
+use Rattle.area_core.specs.Map.{opening_words, word_at, anchor_place, slot_place, block_place, breakpoint_place, image_entry_at}
+use Rattle.area_core.specs.Generations.{anchor_names_area, serial_in, names_frame, is_code_word, traced_word, has_function, is_traced_function, is_entry_word}
 use Rattle.area_core.specs.Terms.{looked, look_at, are_buckets_known, is_bucket_known}
-use Rattle.area_core.specs.Readers.{is_of, is_named_before}
+use Rattle.area_core.specs.Readers.{is_slot_of, is_named_before}
 use Rattle.area_core.specs.Stores.{stands_elsewhere, is_framed, is_image_word}
 use Rattle.area_core.specs.Roots.{code_stands, traces_stand, entries_stand, image_stands}
 
@@ -27,11 +27,11 @@ pub named_none : (slots : Slots) (words : List ℕ) (serial : ℕ) → is_named_
 unfolding is_named_before
 named_none slots words serial = refl
 
-pub named_suc : (slots : Slots) (words : List ℕ) (serial : ℕ) (n : ℕ) → is_named_before slots words serial (suc n) ≡ (is_named_before slots words serial n || (is_of slots (n / ANCHORS) && names (word_at words (anchor_place n)) serial))
+pub named_suc : (slots : Slots) (words : List ℕ) (serial : ℕ) (n : ℕ) → is_named_before slots words serial (suc n) ≡ (is_named_before slots words serial n || (is_slot_of slots (n / ANCHORS) && anchor_names_area (word_at words (anchor_place n)) serial))
 unfolding is_named_before
 named_suc slots words serial n = refl
 
-pub named_next : (slots : Slots) (words : List ℕ) (serial : ℕ) (n : ℕ) → is_named_before slots words serial (n + 1) ≡ (is_named_before slots words serial n || (is_of slots (n / ANCHORS) && names (word_at words (anchor_place n)) serial))
+pub named_next : (slots : Slots) (words : List ℕ) (serial : ℕ) (n : ℕ) → is_named_before slots words serial (n + 1) ≡ (is_named_before slots words serial n || (is_slot_of slots (n / ANCHORS) && anchor_names_area (word_at words (anchor_place n)) serial))
 named_next slots words serial n = ap (is_named_before slots words serial) (one_more n) ∙ named_suc slots words serial n
 
 pub known_none : (block : ℕ → ℕ) (keys : List KeyTerm) → are_buckets_known block keys 0 ≡ true
@@ -93,11 +93,11 @@ pub entries_none : (words : List ℕ) (k : KeptArea) (p : Published) → entries
 unfolding entries_stand
 entries_none words k p = refl
 
-pub entries_suc : (words : List ℕ) (k : KeptArea) (p : Published) (n : ℕ) → entries_stand words k p (suc n) ≡ (entries_stand words k p n && (not (has_function k n) || not (word_at words (block_place k.area.block (entry_at n)) == 0) || not (is_traced p k.area.serial n)))
+pub entries_suc : (words : List ℕ) (k : KeptArea) (p : Published) (n : ℕ) → entries_stand words k p (suc n) ≡ (entries_stand words k p n && (not (has_function k n) || not (word_at words (block_place k.area.block (image_entry_at n)) == 0) || not (is_traced_function p k.area.serial n)))
 unfolding entries_stand
 entries_suc words k p n = refl
 
-pub entries_next : (words : List ℕ) (k : KeptArea) (p : Published) (n : ℕ) → entries_stand words k p (n + 1) ≡ (entries_stand words k p n && (not (has_function k n) || not (word_at words (block_place k.area.block (entry_at n)) == 0) || not (is_traced p k.area.serial n)))
+pub entries_next : (words : List ℕ) (k : KeptArea) (p : Published) (n : ℕ) → entries_stand words k p (n + 1) ≡ (entries_stand words k p n && (not (has_function k n) || not (word_at words (block_place k.area.block (image_entry_at n)) == 0) || not (is_traced_function p k.area.serial n)))
 entries_next words k p n = ap (entries_stand words k p) (one_more n) ∙ entries_suc words k p n
 
 pub image_none : (words : List ℕ) (k : KeptArea) → image_stands words k 0 ≡ true

@@ -11,13 +11,13 @@ use Rattle.area_core.specs.declared.event.AreaEvent.TheVariants.{StoreWord, Stor
 use Rattle.area_core.specs.declared.table.Published.{Published}
 use Rattle.area_core.specs.declared.table.KeptArea.{KeptArea}
 use Rattle.area_core.specs.declared.table.Table.{Table}
-use Rattle.area_core.specs.Map.{word_at, slot_place, retire_place, doom_place, block_place, entry_at, kind_at}
-use Rattle.area_core.specs.Generations.{is_used, is_retired, is_doomed, is_traced, is_kept_as, has_area, has_image, has_function, tells, agrees, serial_in, is_naming}
+use Rattle.area_core.specs.Map.{word_at, slot_place, retire_place, doom_place, block_place, image_entry_at, kind_at}
+use Rattle.area_core.specs.Generations.{is_used, is_retired_area, is_doomed_area, is_traced_function, is_kept_as, has_area, has_image, has_function, tells, are_alike, serial_in, is_naming}
 use Rattle.area_core.specs.Blocks.{Among, KeptApart, IsAnchor}
-use Rattle.area_core.specs.Readers.{readable_generations, is_named, all_anchors, holds_of_each}
+use Rattle.area_core.specs.Readers.{readable_generations, is_named_area, all_anchors, holds_of_each}
 use Rattle.area_core.specs.Stores.{with_word, holds_in_block, is_released_by, may_release, may_be_retire, kept_after, may_be_doom, is_function_of, is_untraced, may_be_entry, entry_word, may_store_entry}
 use Rattle.area_core.specs.Step.{after, word_stored, IsReadable, IsSound}
-use Rattle.area_core.specs.Enabled.{BlocksStand, with_retire, IsFunctionOf, with_entry}
+use Rattle.area_core.specs.Enabled.{BlocksStand, with_retire, IsFunctionOfBlock, with_entry}
 use Rattle.area_core.proofs.Places.{kind_block, kind_slot, kind_retire_place, kind_doom_place, word_there}
 use Rattle.area_core.proofs.Held.{held_readable}
 use Rattle.area_core.proofs.Tests.{some_passes, passed_by, three_hold, filter_gives}
@@ -32,11 +32,11 @@ use Rattle.area_core.proofs.StoreLaws.{word_store_keeps, entry_store_keeps}
 
 module _ (s : Table) (sound : IsSound s) (word value block : ℕ) (is : kind_at word ≡ Doom block) where
   doom_may : BlocksStand (with_word s word value) → (k : KeptArea) → Among s.kept k → k.area.block ≡ block → may_be_doom s (readable_generations s.progress) value k ≡ true
-  doom_may stands k among same = each_generation s.published (readable_generations s.progress) (λ g p. is_retired p k.area.serial || agrees (tells value g) (is_doomed p k.area.serial)) (λ g p readable published.
-      elim (cases_Bool (is_retired p k.area.serial)) as (λ _. (is_retired p k.area.serial || agrees (tells value g) (is_doomed p k.area.serial)) ≡ true) [
-        | inl retired ↦ or_left (is_retired p k.area.serial) (agrees (tells value g) (is_doomed p k.area.serial)) retired
-        | inr unretired ↦ or_right (is_retired p k.area.serial) (agrees (tells value g) (is_doomed p k.area.serial))
-            (agrees_from (tells value g) (is_doomed p k.area.serial)
+  doom_may stands k among same = each_generation s.published (readable_generations s.progress) (λ g p. is_retired_area p k.area.serial || are_alike (tells value g) (is_doomed_area p k.area.serial)) (λ g p readable published.
+      elim (cases_Bool (is_retired_area p k.area.serial)) as (λ _. (is_retired_area p k.area.serial || are_alike (tells value g) (is_doomed_area p k.area.serial)) ≡ true) [
+        | inl retired ↦ or_left (is_retired_area p k.area.serial) (are_alike (tells value g) (is_doomed_area p k.area.serial)) retired
+        | inr unretired ↦ or_right (is_retired_area p k.area.serial) (are_alike (tells value g) (is_doomed_area p k.area.serial))
+            (agrees_from (tells value g) (is_doomed_area p k.area.serial)
             (ap (λ (x : ℕ). tells x g) (sym stored) ∙ (stands.areas_stand g p (held_readable s.progress sound.progress g readable) published k among).doomed big unretired))
       ])
     where
@@ -82,7 +82,7 @@ module _ (s : Table) (sound : IsSound s) (word value block : ℕ) (is : kind_at 
       not_both_hold (k.area.block == block) (is_released_by s value k) (subst (λ (x : KeptArea). not ((x.area.block == block) && is_released_by s value x) ≡ true) one was.1) (eq-eqb k.area.block block same) goes
 
   -- no slot names it
-  unnamed : (k : KeptArea) → Among s.kept k → k.area.block ≡ block → is_released_by s value k ≡ true → is_named All s.words k.area.serial ≡ true → ⊥
+  unnamed : (k : KeptArea) → Among s.kept k → k.area.block ≡ block → is_released_by s value k ≡ true → is_named_area All s.words k.area.serial ≡ true → ⊥
   unnamed k among same goes named =
       let found = named_by All s.words k.area.serial all_anchors named in
       by_anchor (found.0 / 16) (found.0 % 16 + 1) (let below = found.1 in record { slot = omega (arith, below); first = omega (arith); last = omega (arith) }) found.2
@@ -107,15 +107,15 @@ module _ (s : Table) (sound : IsSound s) (word value block : ℕ) (is : kind_at 
 
   release_may : (k : KeptArea) → Among s.kept k → k.area.block ≡ block → is_released_by s value k ≡ true → may_release s (readable_generations s.progress) k ≡ true
   release_may k among same goes =
-      and_from (not (is_named All s.words k.area.serial)) (holds_of_each s.published (readable_generations s.progress) (λ g p. not (is_used p k.area.serial)))
-      (not_from_false (is_named All s.words k.area.serial) (never (is_named All s.words k.area.serial) (λ named. unnamed k among same goes named)))
+      and_from (not (is_named_area All s.words k.area.serial)) (holds_of_each s.published (readable_generations s.progress) (λ g p. not (is_used p k.area.serial)))
+      (not_from_false (is_named_area All s.words k.area.serial) (never (is_named_area All s.words k.area.serial) (λ named. unnamed k among same goes named)))
       (each_generation s.published (readable_generations s.progress) (λ g p. not (is_used p k.area.serial)) (λ g p readable published.
       not_from_false (is_used p k.area.serial) (never (is_used p k.area.serial) (λ uses. unused k among same goes g p (held_readable s.progress sound.progress g readable) published uses))))
 
   -- an area that stays has a retire word that tells of it
-  stays_may : (k : KeptArea) → Among s.kept k → k.area.block ≡ block → is_released_by s value k ≡ false → holds_of_each s.published (readable_generations s.progress) (λ g p. agrees (tells value g) (is_retired p k.area.serial)) ≡ true
-  stays_may k among same stays = each_generation s.published (readable_generations s.progress) (λ g p. agrees (tells value g) (is_retired p k.area.serial)) (λ g p readable published.
-      agrees_from (tells value g) (is_retired p k.area.serial)
+  stays_may : (k : KeptArea) → Among s.kept k → k.area.block ≡ block → is_released_by s value k ≡ false → holds_of_each s.published (readable_generations s.progress) (λ g p. are_alike (tells value g) (is_retired_area p k.area.serial)) ≡ true
+  stays_may k among same stays = each_generation s.published (readable_generations s.progress) (λ g p. are_alike (tells value g) (is_retired_area p k.area.serial)) (λ g p readable published.
+      agrees_from (tells value g) (is_retired_area p k.area.serial)
       (ap (λ (x : ℕ). tells x g) (sym stored) ∙ (stands.areas_stand g p (held_readable s.progress sound.progress g readable) published k left).retired))
     where
       left : Among (kept_after s block value) k
@@ -130,8 +130,8 @@ module _ (s : Table) (sound : IsSound s) (word value block : ℕ) (is : kind_at 
   retire_may : (k : KeptArea) → Among s.kept k → k.area.block ≡ block → may_be_retire s (readable_generations s.progress) value k ≡ true
   retire_may k among same =
       elim (cases_Bool (is_released_by s value k)) as (λ _. may_be_retire s (readable_generations s.progress) value k ≡ true) [
-        | inl goes ↦ cond-true (is_released_by s value k) (may_release s (readable_generations s.progress) k) (holds_of_each s.published (readable_generations s.progress) (λ g p. agrees (tells value g) (is_retired p k.area.serial))) goes ∙ release_may k among same goes
-        | inr stays ↦ cond-false (is_released_by s value k) (may_release s (readable_generations s.progress) k) (holds_of_each s.published (readable_generations s.progress) (λ g p. agrees (tells value g) (is_retired p k.area.serial))) stays ∙ stays_may k among same stays
+        | inl goes ↦ cond-true (is_released_by s value k) (may_release s (readable_generations s.progress) k) (holds_of_each s.published (readable_generations s.progress) (λ g p. are_alike (tells value g) (is_retired_area p k.area.serial))) goes ∙ release_may k among same goes
+        | inr stays ↦ cond-false (is_released_by s value k) (may_release s (readable_generations s.progress) k) (holds_of_each s.published (readable_generations s.progress) (λ g p. are_alike (tells value g) (is_retired_area p k.area.serial))) stays ∙ stays_may k among same stays
       ]
 
   retire_enabled : after s (StoreWord word value) ≡ Some (with_retire s word block value)
@@ -146,7 +146,7 @@ retire_decided s word value block sound is = ((λ e. (word_store_keeps s (with_r
 -- ---- entry words
 
 module _ (s : Table) (sound : IsSound s) (at : CodeRef) (on : Bool) where
-  entry_enabled : ((k : KeptArea) × IsFunctionOf s.kept at k) × BlocksStand (with_entry s at on) → after s (StoreEntry at on) ≡ Some (with_entry s at on)
+  entry_enabled : ((k : KeptArea) × IsFunctionOfBlock s.kept at k) × BlocksStand (with_entry s at on) → after s (StoreEntry at on) ≡ Some (with_entry s at on)
   entry_enabled both = is_enabled (may_store_entry s (readable_generations s.progress) at on) (with_entry s at on)
       (and_from (list_any (is_function_of at) s.kept) (may_be_entry s (readable_generations s.progress) at.area.serial at.function (entry_word on))
       (some_passes (is_function_of at) s.kept own.among.0 k own.among.1 (three_from (k.area.serial == at.area.serial) (k.area.block == at.area.block) (has_function k at.function) (eq-eqb k.area.serial at.area.serial own.serial) (eq-eqb k.area.block at.area.block own.block) own.has))
@@ -155,30 +155,30 @@ module _ (s : Table) (sound : IsSound s) (at : CodeRef) (on : Bool) where
       k : KeptArea
       k = both.0.0
 
-      own : IsFunctionOf s.kept at k
+      own : IsFunctionOfBlock s.kept at k
       own = both.0.1
 
       fits : (k.area.block < 64) × (at.function < 16)
       fits = function_fits k at.function (sound.blocks.kept_fit k own.among) own.has
 
-      stored : word_at (slice_set s.words (block_place at.area.block (entry_at at.function)) (entry_word on)) (block_place k.area.block (entry_at at.function)) ≡ entry_word on
+      stored : word_at (slice_set s.words (block_place at.area.block (image_entry_at at.function)) (entry_word on)) (block_place k.area.block (image_entry_at at.function)) ≡ entry_word on
       stored =
           let big = subst (λ (b : ℕ). b < 64) own.block fits.0 in
           let few = fits.1 in
-          let kind = kind_block at.area.block (entry_at at.function) (omega (arith, big)) (big_room at.area.block (entry_at at.function) big (omega (arith, few))) in
-          stored_at s sound (block_place at.area.block (entry_at at.function)) (entry_word on) (block_place k.area.block (entry_at at.function)) (block_within (block_place at.area.block (entry_at at.function)) at.area.block (entry_at at.function) kind) (ap (λ (b : ℕ). block_place b (entry_at at.function)) (sym own.block))
+          let kind = kind_block at.area.block (image_entry_at at.function) (omega (arith, big)) (big_room at.area.block (image_entry_at at.function) big (omega (arith, few))) in
+          stored_at s sound (block_place at.area.block (image_entry_at at.function)) (entry_word on) (block_place k.area.block (image_entry_at at.function)) (block_within (block_place at.area.block (image_entry_at at.function)) at.area.block (image_entry_at at.function) kind) (ap (λ (b : ℕ). block_place b (image_entry_at at.function)) (sym own.block))
 
       may : may_be_entry s (readable_generations s.progress) at.area.serial at.function (entry_word on) ≡ true
       may = elim (cases_Bool (entry_word on == 0)) as (λ _. may_be_entry s (readable_generations s.progress) at.area.serial at.function (entry_word on) ≡ true) [
         | inr other ↦ or_left (not (entry_word on == 0)) (is_untraced s (readable_generations s.progress) at.area.serial at.function) (not_from_false (entry_word on == 0) other)
         | inl none ↦ or_right (not (entry_word on == 0)) (is_untraced s (readable_generations s.progress) at.area.serial at.function)
-            (each_generation s.published (readable_generations s.progress) (λ g p. not (is_traced p at.area.serial at.function)) (λ g p readable published.
-            not_from_false (is_traced p at.area.serial at.function)
-            (subst (λ (x : ℕ). is_traced p x at.function ≡ false) own.serial
+            (each_generation s.published (readable_generations s.progress) (λ g p. not (is_traced_function p at.area.serial at.function)) (λ g p readable published.
+            not_from_false (is_traced_function p at.area.serial at.function)
+            (subst (λ (x : ℕ). is_traced_function p x at.function ≡ false) own.serial
             ((both.1.areas_stand g p (held_readable s.progress sound.progress g readable) published k own.among).entries at.function own.has (stored ∙ eqb-true (entry_word on) 0 none)))))
       ]
 
-  entry_kept : after s (StoreEntry at on) ≡ Some (with_entry s at on) → ((k : KeptArea) × IsFunctionOf s.kept at k) × BlocksStand (with_entry s at on)
+  entry_kept : after s (StoreEntry at on) ≡ Some (with_entry s at on) → ((k : KeptArea) × IsFunctionOfBlock s.kept at k) × BlocksStand (with_entry s at on)
   entry_kept e =
       let stored = enabled (may_store_entry s (readable_generations s.progress) at on) (with_entry s at on) (with_entry s at on) e in
       let tests = and_parts (list_any (is_function_of at) s.kept) (may_be_entry s (readable_generations s.progress) at.area.serial at.function (entry_word on)) stored.0 in
@@ -186,5 +186,5 @@ module _ (s : Table) (sound : IsSound s) (at : CodeRef) (on : Bool) where
       let parts = three_hold (found.0.area.serial == at.area.serial) (found.0.area.block == at.area.block) (has_function found.0 at.function) found.3 in
       ((found.0, record { among = (found.1, found.2); serial = eqb-true found.0.area.serial at.area.serial parts.0; block = eqb-true found.0.area.block at.area.block parts.1; has = parts.2 }), (entry_store_keeps s (with_entry s at on) at on sound e).blocks)
 
-  pub entry_decided : (after s (StoreEntry at on) ≡ Some (with_entry s at on)) ↔ (((k : KeptArea) × IsFunctionOf s.kept at k) × BlocksStand (with_entry s at on))
+  pub entry_decided : (after s (StoreEntry at on) ≡ Some (with_entry s at on)) ↔ (((k : KeptArea) × IsFunctionOfBlock s.kept at k) × BlocksStand (with_entry s at on))
   entry_decided = (entry_kept, entry_enabled)

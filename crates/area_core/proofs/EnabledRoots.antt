@@ -15,11 +15,11 @@ use Rattle.area_core.specs.declared.table.Root.{Root}
 use Rattle.area_core.specs.declared.table.Published.{Published}
 use Rattle.area_core.specs.declared.table.KeptArea.{KeptArea}
 use Rattle.area_core.specs.declared.table.Table.{Table}
-use Rattle.area_core.specs.Map.{word_at, block_place, breakpoint_place, entry_at, retire_place, doom_place, room_of}
-use Rattle.area_core.specs.Generations.{is_instance, is_key_area, is_retired, is_doomed, is_traced, holds_area, has_serial, is_kept_as, functions_of, has_function, is_entry_word, is_code_word, traced_word, tells, agrees}
+use Rattle.area_core.specs.Map.{word_at, block_place, breakpoint_place, image_entry_at, retire_place, doom_place, room_of}
+use Rattle.area_core.specs.Generations.{is_instance, is_key_area, is_retired_area, is_doomed_area, is_traced_function, holds_area, has_serial, is_kept_as, functions_in_image, has_function, is_entry_word, is_code_word, traced_word, tells, are_alike}
 use Rattle.area_core.specs.Stores.{is_image_word}
 use Rattle.area_core.specs.Terms.{terms_stand}
-use Rattle.area_core.specs.Blocks.{Among, RootFits, InstancesPlaced, CodeStands, BreakpointsStand, term_words, UsedAreKept, FitsBlock, ImageStands, AreaStands, KeptApart}
+use Rattle.area_core.specs.Blocks.{Among, RootFits, InstancesPlaced, CodeStands, BreakpointsStand, term_blocks_words, UsedAreKept, FitsBlock, ImageStands, AreaStands, KeptApart}
 use Rattle.area_core.specs.Readers.{held_generations, holds_of_each}
 use Rattle.area_core.specs.Roots.{root_fits, is_for_instances, instances_placed, blocks_stand, code_stands, traces_stand, breakpoints_stand, fresh_areas, fits_block, is_apart, are_apart, image_stands, entries_stand, retire_tells, doom_tells, area_stands, is_fresh_sound, is_holding_kept, used_are_kept}
 use Rattle.area_core.specs.Step.{after, to_publish, may_publish_in, appended, IsReadable, IsSound}
@@ -67,9 +67,9 @@ unless_big block test each =
     ]
 
 fits_back : (k : KeptArea) → FitsBlock k → fits_block k ≡ true
-fits_back k fits = four_from (nat_le AREAS_START k.area.block) (nat_lt k.area.block BLOCKS) (nat_le (length k.words) (room_of k.area.block)) (not (nat_lt k.area.block BIG_BLOCKS) || nat_le (functions_of k.words) FUNCTIONS)
+fits_back k fits = four_from (nat_le AREAS_START k.area.block) (nat_lt k.area.block BLOCKS) (nat_le (length k.words) (room_of k.area.block)) (not (nat_lt k.area.block BIG_BLOCKS) || nat_le (functions_in_image k.words) FUNCTIONS)
     (le-leb AREAS_START k.area.block fits.first) (lt-ltb k.area.block BLOCKS fits.last) (le-leb (length k.words) (room_of k.area.block) fits.room)
-    (unless_big k.area.block (nat_le (functions_of k.words) FUNCTIONS) (λ big. le-leb (functions_of k.words) FUNCTIONS (fits.functions big)))
+    (unless_big k.area.block (nat_le (functions_in_image k.words) FUNCTIONS) (λ big. le-leb (functions_in_image k.words) FUNCTIONS (fits.functions big)))
 
 image_back : (words : List ℕ) (k : KeptArea) → ImageStands (word_at words) k → image_stands words k BIG_WORDS ≡ true
 image_back words k stands = count_from (image_stands words k) (λ (n : ℕ). is_entry_word k n || is_image_word (slice_get k.words n) (word_at words (block_place k.area.block n))) (image_none words k) (image_suc words k) BIG_WORDS (λ at within. word at (slice_get k.words at) refl)
@@ -88,9 +88,9 @@ one_fails true false c each = refl
 one_fails false b c each = refl
 
 entries_back : (words : List ℕ) (k : KeptArea) (g : ℕ) (p : Published) → AreaStands (word_at words) k g p → entries_stand words k p FUNCTIONS ≡ true
-entries_back words k g p stands = count_from (entries_stand words k p) (λ (n : ℕ). not (has_function k n) || not (word_at words (block_place k.area.block (entry_at n)) == 0) || not (is_traced p k.area.serial n)) (entries_none words k p) (entries_suc words k p) FUNCTIONS (λ function few.
-    one_fails (has_function k function) (word_at words (block_place k.area.block (entry_at function)) == 0) (is_traced p k.area.serial function)
-    (λ has none. stands.entries function has (eqb-true (word_at words (block_place k.area.block (entry_at function))) 0 none)))
+entries_back words k g p stands = count_from (entries_stand words k p) (λ (n : ℕ). not (has_function k n) || not (word_at words (block_place k.area.block (image_entry_at n)) == 0) || not (is_traced_function p k.area.serial n)) (entries_none words k p) (entries_suc words k p) FUNCTIONS (λ function few.
+    one_fails (has_function k function) (word_at words (block_place k.area.block (image_entry_at function)) == 0) (is_traced_function p k.area.serial function)
+    (λ has none. stands.entries function has (eqb-true (word_at words (block_place k.area.block (image_entry_at function))) 0 none)))
 
 either_true : (a b c : Bool) → (a ≡ true → b ≡ false → c ≡ true) → (not a || b || c) ≡ true
 either_true true true c each = refl
@@ -100,9 +100,9 @@ either_true false b c each = refl
 area_back : (words : List ℕ) (k : KeptArea) (g : ℕ) (p : Published) → AreaStands (word_at words) k g p → area_stands words k g p ≡ true
 area_back words k g p stands = three_from (entries_stand words k p FUNCTIONS) (retire_tells words k g p) (doom_tells words k g p)
     (entries_back words k g p stands)
-    (agrees_from (tells (word_at words (retire_place k.area.block)) g) (is_retired p k.area.serial) stands.retired)
-    (either_true (nat_lt k.area.block BIG_BLOCKS) (is_retired p k.area.serial) (agrees (tells (word_at words (doom_place k.area.block)) g) (is_doomed p k.area.serial))
-    (λ big unretired. agrees_from (tells (word_at words (doom_place k.area.block)) g) (is_doomed p k.area.serial) (stands.doomed (ltb-true k.area.block BIG_BLOCKS big) unretired)))
+    (agrees_from (tells (word_at words (retire_place k.area.block)) g) (is_retired_area p k.area.serial) stands.retired)
+    (either_true (nat_lt k.area.block BIG_BLOCKS) (is_retired_area p k.area.serial) (are_alike (tells (word_at words (doom_place k.area.block)) g) (is_doomed_area p k.area.serial))
+    (λ big unretired. agrees_from (tells (word_at words (doom_place k.area.block)) g) (is_doomed_area p k.area.serial) (stands.doomed (ltb-true k.area.block BIG_BLOCKS big) unretired)))
 
 -- ---- what is used
 
@@ -202,10 +202,10 @@ module _ (s : Table) (sound : IsSound s) (p : Published) (stands : BlocksStand (
   may_publish = seven_from (root_fits p.root) (instances_placed p) (blocks_stand s.words p) (list_all (is_fresh_sound s.words s.published (held_generations s.progress)) (fresh_areas s.kept p)) (are_apart s.kept (fresh_areas s.kept p)) (used_are_kept (s.kept ++ fresh_areas s.kept p) p) (list_all (λ (k : KeptArea). area_stands s.words k (s.progress.generation + 1) p) (s.kept ++ fresh_areas s.kept p))
       (root_back p.root (stands.roots_fit (s.progress.generation + 1) p counts newest))
       (placed_back p (stands.instances_placed (s.progress.generation + 1) p counts newest))
-      (three_from (code_stands s.words p EXPORT_ENTRIES) (breakpoints_stand s.words p) (terms_stand (term_words (word_at s.words) p.root) p)
+      (three_from (code_stands s.words p EXPORT_ENTRIES) (breakpoints_stand s.words p) (terms_stand (term_blocks_words (word_at s.words) p.root) p)
       (code_back s.words p (stands.code_stands (s.progress.generation + 1) p counts newest))
       (breakpoints_back s.words p (stands.breakpoints_stand (s.progress.generation + 1) p counts newest))
-      (terms_stand_back (term_words (word_at s.words) p.root) p (stands.terms_stand (s.progress.generation + 1) p counts newest)))
+      (terms_stand_back (term_blocks_words (word_at s.words) p.root) p (stands.terms_stand (s.progress.generation + 1) p counts newest)))
       fresh_back
       (apart_parted s.kept (fresh_areas s.kept p) stands.kept_apart)
       (used_back (s.kept ++ fresh_areas s.kept p) p (stands.used_kept (s.progress.generation + 1) p counts newest))

@@ -15,7 +15,7 @@ use Rattle.area_core.specs.declared.table.Published.{Published}
 use Rattle.area_core.specs.declared.table.Table.{Table}
 use Rattle.area_core.specs.Map.{word_at, slot_place}
 use Rattle.area_core.specs.Generations.{serial_in}
-use Rattle.area_core.specs.Readers.{is_of}
+use Rattle.area_core.specs.Readers.{is_slot_of}
 use Rattle.area_core.specs.Stores.{with_word, stands_elsewhere, may_name_frame, may_name_literal, may_store_anchor, may_store_slot}
 use Rattle.area_core.specs.Step.{after, slot_stored_by, may_write_slot, IsSound}
 use Rattle.area_core.specs.Enabled.{BlocksStand, MayNameIn}
@@ -87,7 +87,7 @@ module _ (s : Table) (sound : IsSound s) (k process place value : ℕ) where
               or_right (place == 0) (may_store_anchor s process place value p) (may_anchor (omega (arith, some)))
         ]
 
-    own : is_of (OfMember k (length s.progress.members)) process ≡ true
+    own : is_slot_of (OfMember k (length s.progress.members)) process ≡ true
     own =
         let within = slice_get_within s.progress.members k member line.made in
         and_from (not (length s.progress.members == 0)) (process % length s.progress.members == k)
@@ -98,7 +98,7 @@ module _ (s : Table) (sound : IsSound s) (k process place value : ℕ) where
         some n within none = absurd (omega (arith))
 
     may_write : may_write_slot s member k process place ≡ true
-    may_write = four_from (is_value member.word) (nat_lt process PROCESSES) (is_of (OfMember k (length s.progress.members)) process) (nat_le place ANCHORS) (value_is member.word line.awake) (lt-ltb process PROCESSES line.slot) own (le-leb place ANCHORS line.last)
+    may_write = four_from (is_value member.word) (nat_lt process PROCESSES) (is_slot_of (OfMember k (length s.progress.members)) process) (nat_le place ANCHORS) (value_is member.word line.awake) (lt-ltb process PROCESSES line.slot) own (le-leb place ANCHORS line.last)
 
     slot_stored : after s (StoreSlot k process place value) ≡ Some (with_word s (slot_place process place) value)
     slot_stored =
@@ -115,7 +115,7 @@ module _ (s : Table) (sound : IsSound s) (k process place value : ℕ) where
   line_of member at e =
       let made = enabled (may_write_slot s member k process place && may_store_slot s process place value (slice_get s.published member.generation)) (with_word s (slot_place process place) value) (with_word s (slot_place process place) value) e in
       let both = and_parts (may_write_slot s member k process place) (may_store_slot s process place value (slice_get s.published member.generation)) made.0 in
-      let four = four_hold (is_value member.word) (nat_lt process PROCESSES) (is_of (OfMember k (length s.progress.members)) process) (nat_le place ANCHORS) both.0 in
+      let four = four_hold (is_value member.word) (nat_lt process PROCESSES) (is_slot_of (OfMember k (length s.progress.members)) process) (nat_le place ANCHORS) both.0 in
       let test = slot_test s process place value (slice_get s.published member.generation) both.1 in
       let anchor = λ (first : 1 ≤ place). three_hold ((value == 0) || not (stands_elsewhere s.words process place (serial_in value) ANCHORS)) (may_name_frame test.0 (word_at s.words (slot_place process place)) value) (may_name_literal test.0 s.words process (word_at s.words (slot_place process place)) value) (test.2 first) in (
         member,

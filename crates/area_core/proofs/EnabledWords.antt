@@ -9,10 +9,10 @@ use Rattle.area_core.specs.declared.event.AreaEvent.TheVariants.{StoreWord}
 use Rattle.area_core.specs.declared.table.Published.{Published}
 use Rattle.area_core.specs.declared.table.KeptArea.{KeptArea}
 use Rattle.area_core.specs.declared.table.Table.{Table}
-use Rattle.area_core.specs.Map.{word_at, slot_place, block_place, entry_at, kind_at}
-use Rattle.area_core.specs.Generations.{is_traced, has_function, is_entry_word, is_naming, serial_in, names}
+use Rattle.area_core.specs.Map.{word_at, slot_place, block_place, image_entry_at, kind_at}
+use Rattle.area_core.specs.Generations.{is_traced_function, has_function, is_entry_word, is_naming, serial_in, anchor_names_area}
 use Rattle.area_core.specs.Blocks.{Among, IsAnchor}
-use Rattle.area_core.specs.Readers.{readable_generations, is_read, is_read_under, is_named, all_anchors, slots_read, reads_in_block}
+use Rattle.area_core.specs.Readers.{readable_generations, is_read, is_read_under, is_named_area, all_anchors, slots_read, reads_in_block}
 use Rattle.area_core.specs.Stores.{with_word, holds_in_block, is_untraced, may_be_entry, is_image_word, may_be_in_image, may_store_in_block}
 use Rattle.area_core.specs.Step.{after, word_stored, IsReadable, IsSound}
 use Rattle.area_core.specs.Enabled.{BlocksStand, IsUnread}
@@ -36,8 +36,8 @@ unread_false s sound block at none = never (is_read s (readable_generations s.pr
           let found = passed_by (λ g. is_read_under (InBlock block at) (slice_get s.published g)) (readable_generations s.progress) under in
           by_generation found.0 (some_passes (λ x. x == found.0) (readable_generations s.progress) found.1 found.0 found.2 (eq-eqb found.0 found.0 refl)) (slice_get s.published found.0) refl found.3
       | inr named ↦
-          let found = passed_by (λ (k : KeptArea). (k.area.block == block) && is_named All s.words k.area.serial) s.kept named in
-          let parts = and_parts (found.0.area.block == block) (is_named All s.words found.0.area.serial) found.3 in
+          let found = passed_by (λ (k : KeptArea). (k.area.block == block) && is_named_area All s.words k.area.serial) s.kept named in
+          let parts = and_parts (found.0.area.block == block) (is_named_area All s.words found.0.area.serial) found.3 in
           by_slot found.0 (found.1, found.2) (eqb-true found.0.area.block block parts.0) parts.1
     ])
   where
@@ -45,7 +45,7 @@ unread_false s sound block at none = never (is_read s (readable_generations s.pr
     by_generation g among None is reads = absurd (cc)
     by_generation g among (Some p) is reads = true≢false (sym reads ∙ none.under g p (held_readable s.progress sound.progress g among) is)
 
-    by_slot : (k : KeptArea) → Among s.kept k → k.area.block ≡ block → is_named All s.words k.area.serial ≡ true → ⊥
+    by_slot : (k : KeptArea) → Among s.kept k → k.area.block ≡ block → is_named_area All s.words k.area.serial ≡ true → ⊥
     by_slot k among same named =
         let found = named_by All s.words k.area.serial all_anchors named in
         let below = found.1 in
@@ -55,14 +55,14 @@ unread_false s sound block at none = never (is_read s (readable_generations s.pr
 pub none_read : (s : Table) → IsSound s → (block at : ℕ) → is_read s (readable_generations s.progress) (InBlock block at) ≡ false → ((g : ℕ) (p : Published) → IsReadable s g → slice_get s.published g ≡ Some p → reads_in_block p block at ≡ true → ⊥) → IsUnread s block at
 none_read s sound block at free unread = record {
   under = λ g p counts here. never (reads_in_block p block at) (λ reads. unread g p counts here reads);
-  unnamed = λ k process anchor among same is. never (names (word_at s.words (slot_place process anchor)) k.area.serial) (λ named. by_anchor k process anchor among same is named);
+  unnamed = λ k process anchor among same is. never (anchor_names_area (word_at s.words (slot_place process anchor)) k.area.serial) (λ named. by_anchor k process anchor among same is named);
 }
   where
-    by_anchor : (k : KeptArea) (process anchor : ℕ) → Among s.kept k → k.area.block ≡ block → IsAnchor process anchor → names (word_at s.words (slot_place process anchor)) k.area.serial ≡ true → ⊥
+    by_anchor : (k : KeptArea) (process anchor : ℕ) → Among s.kept k → k.area.block ≡ block → IsAnchor process anchor → anchor_names_area (word_at s.words (slot_place process anchor)) k.area.serial ≡ true → ⊥
     by_anchor k process anchor among same is named =
         let parts = and_parts (is_naming (word_at s.words (slot_place process anchor))) (serial_in (word_at s.words (slot_place process anchor)) == k.area.serial) named in
-        let own : is_named All s.words k.area.serial ≡ true = subst (λ (x : ℕ). is_named All s.words x ≡ true) (eqb-true (serial_in (word_at s.words (slot_place process anchor))) k.area.serial parts.1) (anchor_names s.words process anchor is parts.0) in
-        let reads = some_passes (λ (k : KeptArea). (k.area.block == block) && is_named All s.words k.area.serial) s.kept among.0 k among.1 (and_from (k.area.block == block) (is_named All s.words k.area.serial) (eq-eqb k.area.block block same) own) in
+        let own : is_named_area All s.words k.area.serial ≡ true = subst (λ (x : ℕ). is_named_area All s.words x ≡ true) (eqb-true (serial_in (word_at s.words (slot_place process anchor))) k.area.serial parts.1) (anchor_names s.words process anchor is parts.0) in
+        let reads = some_passes (λ (k : KeptArea). (k.area.block == block) && is_named_area All s.words k.area.serial) s.kept among.0 k among.1 (and_from (k.area.block == block) (is_named_area All s.words k.area.serial) (eq-eqb k.area.block block same) own) in
         true≢false (sym (or_right (list_any (λ g. is_read_under (InBlock block at) (slice_get s.published g)) (readable_generations s.progress)) (slots_read All s (InBlock block at)) reads) ∙ free)
 
 -- ---- the store
@@ -78,13 +78,13 @@ module _ (s : Table) (sound : IsSound s) (word value block at : ℕ) (is : kind_
       let parts = three_hold (nat_le 6 at) (at % 4 == 2) (has_function k (at / 4 - 1)) entry in
       let low = leb-true 6 at parts.0 in
       let rest = eqb-true (at % 4) 2 parts.1 in
-      let back : entry_at (at / 4 - 1) ≡ at = omega (arith, low, rest) in
+      let back : image_entry_at (at / 4 - 1) ≡ at = omega (arith, low, rest) in
       elim (cases_Bool (value == 0)) as (λ _. may_be_entry s (readable_generations s.progress) k.area.serial (at / 4 - 1) value ≡ true) [
         | inr other ↦ or_left (not (value == 0)) (is_untraced s (readable_generations s.progress) k.area.serial (at / 4 - 1)) (not_from_false (value == 0) other)
         | inl none ↦ or_right (not (value == 0)) (is_untraced s (readable_generations s.progress) k.area.serial (at / 4 - 1))
-            (each_generation s.published (readable_generations s.progress) (λ g p. not (is_traced p k.area.serial (at / 4 - 1))) (λ g p readable published.
-            not_from_false (is_traced p k.area.serial (at / 4 - 1))
-            ((stands.areas_stand g p (held_readable s.progress sound.progress g readable) published k among).entries (at / 4 - 1) parts.2 (here k same (entry_at (at / 4 - 1)) back ∙ eqb-true value 0 none))))
+            (each_generation s.published (readable_generations s.progress) (λ g p. not (is_traced_function p k.area.serial (at / 4 - 1))) (λ g p readable published.
+            not_from_false (is_traced_function p k.area.serial (at / 4 - 1))
+            ((stands.areas_stand g p (held_readable s.progress sound.progress g readable) published k among).entries (at / 4 - 1) parts.2 (here k same (image_entry_at (at / 4 - 1)) back ∙ eqb-true value 0 none))))
       ]
 
   -- another word of a kept area stays

@@ -9,8 +9,8 @@ use Rattle.area_core.specs.declared.map.TheConstants.{BIG_BLOCKS, AREAS_START, B
 use Rattle.area_core.specs.declared.map.WordKind.TheVariants.{InBlock}
 use Rattle.area_core.specs.declared.table.KeptArea.{KeptArea}
 use Rattle.area_core.specs.declared.table.Table.{Table}
-use Rattle.area_core.specs.Map.{kind_at, block_place, breakpoint_at, entry_at}
-use Rattle.area_core.specs.Generations.{is_traced, has_function, is_entry_word}
+use Rattle.area_core.specs.Map.{kind_at, block_place, breakpoint_at, image_entry_at}
+use Rattle.area_core.specs.Generations.{is_traced_function, has_function, is_entry_word}
 use Rattle.area_core.specs.Blocks.{Among, KeptApart}
 use Rattle.area_core.specs.Readers.{readable_generations}
 use Rattle.area_core.specs.Stores.{with_word, is_function_of, entry_word, may_be_entry, may_store_entry}
@@ -48,42 +48,42 @@ module _ (s : Table) (sound : IsSound s) (at : CodeRef) (on : Bool) (may : IsTru
       let own = function_fits k at.function fits instance.4 in
       (subst (λ n. 9 ≤ n) instance.3 fits.first, subst (λ n. n < 64) instance.3 own.0, own.1)
 
-  stored_kind : kind_at (block_place at.area.block (entry_at at.function)) ≡ InBlock at.area.block (entry_at at.function)
+  stored_kind : kind_at (block_place at.area.block (image_entry_at at.function)) ≡ InBlock at.area.block (image_entry_at at.function)
   stored_kind =
       let big = in_areas.1 in
       let few = in_areas.2 in
-      kind_block at.area.block (entry_at at.function) (omega (arith, big)) (big_room at.area.block (entry_at at.function) big (omega (arith, few)))
+      kind_block at.area.block (image_entry_at at.function) (omega (arith, big)) (big_room at.area.block (image_entry_at at.function) big (omega (arith, few)))
 
   -- the area in this block is the instance
-  is_instance_here : (k : KeptArea) → Among s.kept k → (place : ℕ) → InBlock at.area.block (entry_at at.function) ≡ InBlock k.area.block place → k ≡ instance.0
+  is_instance_here : (k : KeptArea) → Among s.kept k → (place : ℕ) → InBlock at.area.block (image_entry_at at.function) ≡ InBlock k.area.block place → k ≡ instance.0
   is_instance_here k among place same =
-      same_area s.kept sound.blocks.kept_apart k instance.0 among instance.1 (sym (same_block at.area.block (entry_at at.function) k.area.block place same).0 ∙ sym instance.3)
+      same_area s.kept sound.blocks.kept_apart k instance.0 among instance.1 (sym (same_block at.area.block (image_entry_at at.function) k.area.block place same).0 ∙ sym instance.3)
 
-  pub entry_stored_sound : IsSound (with_word s (block_place at.area.block (entry_at at.function)) (entry_word on))
-  entry_stored_sound = block_word_kept s sound (block_place at.area.block (entry_at at.function)) (entry_word on) at.area.block (entry_at at.function) stored_kind
+  pub entry_stored_sound : IsSound (with_word s (block_place at.area.block (image_entry_at at.function)) (entry_word on))
+  entry_stored_sound = block_word_kept s sound (block_place at.area.block (image_entry_at at.function)) (entry_word on) at.area.block (image_entry_at at.function) stored_kind
       (λ g p counts here root entry within same.
-      let parts = same_block at.area.block (entry_at at.function) p.root.code entry same in
+      let parts = same_block at.area.block (image_entry_at at.function) p.root.code entry same in
       let code = root.code in
       let high = in_areas.0 in
       absurd (omega (arith, parts.0, code, high)))
       (λ g p counts here root a among is fits function few same.
-      let parts = same_block at.area.block (entry_at at.function) (BREAKPOINTS_START + p.root.bp) (breakpoint_at a.block function) same in
+      let parts = same_block at.area.block (image_entry_at at.function) (BREAKPOINTS_START + p.root.bp) (breakpoint_at a.block function) same in
       let bp = root.bp in
       let high = in_areas.0 in
       absurd (omega (arith, parts.0, bp, high)))
       (λ g p counts here root place within same.
-      let parts = same_block at.area.block (entry_at at.function) (TERMS_START + p.root.term) place same in
+      let parts = same_block at.area.block (image_entry_at at.function) (TERMS_START + p.root.term) place same in
       let term = root.term in
       let high = in_areas.0 in
       absurd (omega (arith, parts.0, term, high)))
       (λ g p counts here k among function has same none.
-      let parts = same_block at.area.block (entry_at at.function) k.area.block (entry_at function) same in
-      let one = is_instance_here k among (entry_at function) same in
+      let parts = same_block at.area.block (image_entry_at at.function) k.area.block (image_entry_at function) same in
+      let one = is_instance_here k among (image_entry_at function) same in
       let serial : at.area.serial ≡ k.area.serial = sym instance.2 ∙ ap (λ (x : KeptArea). x.area.serial) (sym one) in
       let own : at.function ≡ function = omega (arith, parts.1) in
-      subst (λ x. is_traced p x function ≡ false) serial (subst (λ x. is_traced p at.area.serial x ≡ false) own
+      subst (λ x. is_traced_function p x function ≡ false) serial (subst (λ x. is_traced_function p at.area.serial x ≡ false) own
       (untraced_after s (entry_word on) at.area.serial at.function g p tests.1 none (readable_held s.progress sound.progress g counts) here)))
       (λ k among place old has plain same.
-      let parts = same_block at.area.block (entry_at at.function) k.area.block place same in
+      let parts = same_block at.area.block (image_entry_at at.function) k.area.block place same in
       let one = is_instance_here k among place same in
       absurd (true≢false (sym (entry_is instance.0 at.function instance.4) ∙ ap (λ x. is_entry_word instance.0 x) parts.1 ∙ ap (λ (x : KeptArea). is_entry_word x place) (sym one) ∙ plain)))

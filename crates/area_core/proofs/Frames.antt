@@ -12,10 +12,10 @@ use Rattle.area_core.specs.declared.map.WordKind.{WordKind}
 use Rattle.area_core.specs.declared.map.WordKind.TheVariants.{Slot, Retire, Doom, InBlock}
 use Rattle.area_core.specs.declared.table.Published.{Published}
 use Rattle.area_core.specs.declared.table.KeptArea.{KeptArea}
-use Rattle.area_core.specs.Map.{kind_at, block_place, retire_place, doom_place, slot_place, room_of, breakpoint_at, breakpoint_place, term_place, entry_at}
-use Rattle.area_core.specs.Generations.{is_instance, is_retired, is_doomed, is_traced, is_kept, functions_of, has_function, is_entry_word, is_code_word, traced_word, tells, serial_in, is_naming}
-use Rattle.area_core.specs.Terms.{TermsStand, looked, look_at, value_in, bucket_of, found_in, outcome}
-use Rattle.area_core.specs.Blocks.{Blocks, Among, RootFits, CodeStands, BreakpointsStand, IsForInstances, term_words, FitsBlock, ImageStands, EntriesStand, RetireTells, DoomTells, NamedAreKept, AnchorsApart, EachCounted, BlockInvariant}
+use Rattle.area_core.specs.Map.{kind_at, block_place, retire_place, doom_place, slot_place, room_of, breakpoint_at, breakpoint_place, term_place, image_entry_at}
+use Rattle.area_core.specs.Generations.{is_instance, is_retired_area, is_doomed_area, is_traced_function, is_kept, functions_in_image, has_function, is_entry_word, is_code_word, traced_word, tells, serial_in, is_naming}
+use Rattle.area_core.specs.Terms.{TermsStand, looked, look_at, bucket_value, bucket_of, found_in, found_outcome}
+use Rattle.area_core.specs.Blocks.{Blocks, Among, RootFits, CodeStands, BreakpointsStand, IsForInstances, term_blocks_words, FitsBlock, ImageStands, EntriesStand, RetireTells, DoomTells, NamedAreKept, AnchorsApart, EachCounted, BlockInvariant}
 use Rattle.area_core.specs.Generations.{is_term_word}
 use Rattle.area_core.proofs.Places.{kind_block, kind_retire, kind_doom, kind_slot}
 use Rattle.area_core.proofs.Buckets.{bucket_within}
@@ -30,10 +30,10 @@ big_room block at big small = grind (arith, nat_tests)
 -- a function of a kept area is one of an instance, and within what an instance has
 pub function_fits : (k : KeptArea) (function : ℕ) → FitsBlock k → IsTrue (has_function k function) → (k.area.block < BIG_BLOCKS) × (function < FUNCTIONS)
 function_fits k function fits has =
-    let both = and_parts (nat_lt k.area.block BIG_BLOCKS) (nat_lt function (functions_of k.words)) has in
+    let both = and_parts (nat_lt k.area.block BIG_BLOCKS) (nat_lt function (functions_in_image k.words)) has in
     let big = ltb-true k.area.block BIG_BLOCKS both.0 in
     let few = fits.functions big in
-    let below = ltb-true function (functions_of k.words) both.1 in
+    let below = ltb-true function (functions_in_image k.words) both.1 in
     (big, omega (arith, few, below))
 
 -- the word of a function of an instance stands within a breakpoint index
@@ -53,9 +53,9 @@ looked_same block new same key (suc n) =
     step bucket within None = ap (λ (x : ℕ). if x == 0 then Some None else if x == key + 1 then Some (Some bucket) else None) (same (bucket * 2) (omega (arith)))
 
 pub found_same : (block new : ℕ → ℕ) → ((at : ℕ) → at < BIG_WORDS → new at ≡ block at) → (key : ℕ) → found_in new key ≡ found_in block key
-found_same block new same key = ap (option_map (value_in new)) (ap outcome (looked_same block new same key BUCKETS)) ∙ by_bucket (bucket_of block key) (bucket_within block key)
+found_same block new same key = ap (option_map (bucket_value new)) (ap found_outcome (looked_same block new same key BUCKETS)) ∙ by_bucket (bucket_of block key) (bucket_within block key)
   where
-    by_bucket : (found : Option ℕ) → IfSome found (λ bucket. bucket < BUCKETS) → option_map (value_in new) found ≡ option_map (value_in block) found
+    by_bucket : (found : Option ℕ) → IfSome found (λ bucket. bucket < BUCKETS) → option_map (bucket_value new) found ≡ option_map (bucket_value block) found
     by_bucket None within = refl
     by_bucket (Some bucket) within = ap Some (same (bucket * 2 + 1) (omega (arith, within)))
 
@@ -97,12 +97,12 @@ module _ (b : Blocks) (Counts : ℕ → Type 0) (word : ℕ → ℕ) (kind : Wor
       (sound.breakpoints_stand g p counts at a among instance function few)
 
   -- no word of a term table is stored
-  pub terms_after : ((g : ℕ) (p : Published) → Counts g → slice_get b.published g ≡ Some p → RootFits p.root → (at : ℕ) → at < BIG_WORDS → kind ≡ InBlock (TERMS_START + p.root.term) at → ⊥) → EachCounted b Counts (λ g p. TermsStand (term_words word p.root) p)
+  pub terms_after : ((g : ℕ) (p : Published) → Counts g → slice_get b.published g ≡ Some p → RootFits p.root → (at : ℕ) → at < BIG_WORDS → kind ≡ InBlock (TERMS_START + p.root.term) at → ⊥) → EachCounted b Counts (λ g p. TermsStand (term_blocks_words word p.root) p)
   terms_after unread g p counts at =
       let root = sound.roots_fit g p counts at in
       let term = root.term in
       let big : TERMS_START + p.root.term < BIG_BLOCKS = omega (arith, term) in
-      terms_same (term_words b.word p.root) (term_words word p.root) p
+      terms_same (term_blocks_words b.word p.root) (term_blocks_words word p.root) p
       (λ place within.
       at_word (term_place p.root.term place) (InBlock (TERMS_START + p.root.term) place) (λ x. x ≡ b.word (term_place p.root.term place))
       (kind_block (TERMS_START + p.root.term) place (omega (arith)) (big_room (TERMS_START + p.root.term) place big within))
@@ -111,20 +111,20 @@ module _ (b : Blocks) (Counts : ℕ → Type 0) (word : ℕ → ℕ) (kind : Wor
       (sound.terms_stand g p counts at)
 
   -- an entry word that is stored is 0 only where the generation does not trace the function
-  pub entries_after : (g : ℕ) (p : Published) → Counts g → slice_get b.published g ≡ Some p → (k : KeptArea) → Among b.kept k → ((function : ℕ) → IsTrue (has_function k function) → kind ≡ InBlock k.area.block (entry_at function) → word (block_place k.area.block (entry_at function)) ≡ 0 → is_traced p k.area.serial function ≡ false) → EntriesStand word k p
+  pub entries_after : (g : ℕ) (p : Published) → Counts g → slice_get b.published g ≡ Some p → (k : KeptArea) → Among b.kept k → ((function : ℕ) → IsTrue (has_function k function) → kind ≡ InBlock k.area.block (image_entry_at function) → word (block_place k.area.block (image_entry_at function)) ≡ 0 → is_traced_function p k.area.serial function ≡ false) → EntriesStand word k p
   entries_after g p counts at k among stored function has =
       let fits = function_fits k function (sound.kept_fit k among) has in
       let big = fits.0 in
       let few = fits.1 in
-      at_word (block_place k.area.block (entry_at function)) (InBlock k.area.block (entry_at function)) (λ x. x ≡ 0 → is_traced p k.area.serial function ≡ false)
-      (kind_block k.area.block (entry_at function) (omega (arith, big)) (big_room k.area.block (entry_at function) big (omega (arith, few))))
+      at_word (block_place k.area.block (image_entry_at function)) (InBlock k.area.block (image_entry_at function)) (λ x. x ≡ 0 → is_traced_function p k.area.serial function ≡ false)
+      (kind_block k.area.block (image_entry_at function) (omega (arith, big)) (big_room k.area.block (image_entry_at function) big (omega (arith, few))))
       (stored function has)
       ((sound.areas_stand g p counts at k among).entries function has)
 
   -- a retire word that is stored tells whether the area is retired
   pub retired_after : (g : ℕ) (p : Published) → Counts g → slice_get b.published g ≡ Some p → (k : KeptArea) → Among b.kept k → (kind ≡ Retire k.area.block → RetireTells word k g p) → RetireTells word k g p
   retired_after g p counts at k among stored =
-      at_word (retire_place k.area.block) (Retire k.area.block) (λ x. tells x g ≡ is_retired p k.area.serial)
+      at_word (retire_place k.area.block) (Retire k.area.block) (λ x. tells x g ≡ is_retired_area p k.area.serial)
       (kind_retire k.area.block (sound.kept_fit k among).last)
       stored
       ((sound.areas_stand g p counts at k among).retired)
@@ -132,7 +132,7 @@ module _ (b : Blocks) (Counts : ℕ → Type 0) (word : ℕ → ℕ) (kind : Wor
   -- a doom word that is stored tells whether the instance is doomed
   pub doomed_after : (g : ℕ) (p : Published) → Counts g → slice_get b.published g ≡ Some p → (k : KeptArea) → Among b.kept k → (kind ≡ Doom k.area.block → DoomTells word k g p) → DoomTells word k g p
   doomed_after g p counts at k among stored big unretired =
-      at_word (doom_place k.area.block) (Doom k.area.block) (λ x. tells x g ≡ is_doomed p k.area.serial)
+      at_word (doom_place k.area.block) (Doom k.area.block) (λ x. tells x g ≡ is_doomed_area p k.area.serial)
       (kind_doom k.area.block big)
       (λ same. stored same big unretired)
       ((sound.areas_stand g p counts at k among).doomed big unretired)

@@ -11,9 +11,9 @@ use Rattle.area_core.specs.declared.table.Published.{Published}
 use Rattle.area_core.specs.declared.table.KeptArea.{KeptArea}
 use Rattle.area_core.specs.declared.table.Table.{Table}
 use Rattle.area_core.specs.Map.{retire_place, kind_at}
-use Rattle.area_core.specs.Generations.{is_used, is_retired, tells, agrees}
+use Rattle.area_core.specs.Generations.{is_used, is_retired_area, tells, are_alike}
 use Rattle.area_core.specs.Blocks.{Among}
-use Rattle.area_core.specs.Readers.{readable_generations, reads_in_block, is_read, is_named, all_anchors, holds_of_each}
+use Rattle.area_core.specs.Readers.{readable_generations, reads_in_block, is_read, is_named_area, all_anchors, holds_of_each}
 use Rattle.area_core.specs.Stores.{with_word, holds_in_block, may_be_in_image, may_store_in_block, is_retired_in, is_released_by, may_release, may_be_retire}
 use Rattle.area_core.specs.Step.{after, word_stored, IsReadable, IsSound}
 use Rattle.area_core.specs.Enabled.{with_retire}
@@ -43,21 +43,21 @@ module _ (s : Table) (n : ℕ) (sound : IsSound s) (reached : IsReached s n) whe
 
   -- an area that the newest generation has retired, and none from n on uses
   module _ (k : KeptArea) (among : Among s.kept k) (retired : IsTrue (is_retired_in (slice_get s.published s.progress.generation) k.area.serial)) (unused : (g : ℕ) (p : Published) → n ≤ g → slice_get s.published g ≡ Some p → is_used p k.area.serial ≡ false) (unnamed : IsUnnamed s k.area.serial) where
-    none_names : is_named All s.words k.area.serial ≡ false
-    none_names = never (is_named All s.words k.area.serial) (λ named.
+    none_names : is_named_area All s.words k.area.serial ≡ false
+    none_names = never (is_named_area All s.words k.area.serial) (λ named.
         let found = named_by All s.words k.area.serial all_anchors named in
         let below = found.1 in
         true≢false (sym found.2 ∙ unnamed (found.0 / 16) (found.0 % 16 + 1) (record { slot = omega (arith, below); first = omega (arith); last = omega (arith) })))
 
     may : may_release s (readable_generations s.progress) k ≡ true
     may =
-        and_from (not (is_named All s.words k.area.serial)) (holds_of_each s.published (readable_generations s.progress) (λ g p. not (is_used p k.area.serial)))
-        (not_from_false (is_named All s.words k.area.serial) none_names)
+        and_from (not (is_named_area All s.words k.area.serial)) (holds_of_each s.published (readable_generations s.progress) (λ g p. not (is_used p k.area.serial)))
+        (not_from_false (is_named_area All s.words k.area.serial) none_names)
         (each_generation s.published (readable_generations s.progress) (λ g p. not (is_used p k.area.serial)) (λ g p readable published.
         not_from_false (is_used p k.area.serial) (unused g p (later g (held_readable s.progress sound.progress g readable)) published)))
 
     goes : may_be_retire s (readable_generations s.progress) 0 k ≡ true
-    goes = cond-true (is_released_by s 0 k) (may_release s (readable_generations s.progress) k) (holds_of_each s.published (readable_generations s.progress) (λ g p. agrees (tells 0 g) (is_retired p k.area.serial))) retired ∙ may
+    goes = cond-true (is_released_by s 0 k) (may_release s (readable_generations s.progress) k) (holds_of_each s.published (readable_generations s.progress) (λ g p. are_alike (tells 0 g) (is_retired_area p k.area.serial))) retired ∙ may
 
     pub area_freed : after s (StoreWord (retire_place k.area.block) 0) ≡ Some (with_retire s (retire_place k.area.block) k.area.block 0)
     area_freed =

@@ -9,9 +9,9 @@ use Rattle.area_core.specs.declared.table.Published.{Published}
 use Rattle.area_core.specs.declared.table.KeptArea.{KeptArea}
 use Rattle.area_core.specs.declared.table.Table.{Table}
 use Rattle.area_core.specs.Map.{word_at, anchor_place}
-use Rattle.area_core.specs.Generations.{agrees, names}
+use Rattle.area_core.specs.Generations.{are_alike, anchor_names_area}
 use Rattle.area_core.specs.Blocks.{Among}
-use Rattle.area_core.specs.Readers.{holds_of, holds_at, holds_of_each, is_of, is_named_before}
+use Rattle.area_core.specs.Readers.{holds_of, holds_at, holds_of_each, is_slot_of, is_named_before}
 use Rattle.area_core.specs.Stores.{holds_in_block}
 use Rattle.area_core.specs.Step.{if_enabled}
 use Rattle.area_core.proofs.Counted.{named_none, named_suc}
@@ -37,7 +37,7 @@ pub is_enabled : (b : Bool) (t : Table) → b ≡ true → if_enabled b t ≡ So
 is_enabled b t e = ap (λ (x : Bool). if_enabled x t) e
 
 -- where one is the other, both tests agree
-pub agrees_from : (a b : Bool) → a ≡ b → agrees a b ≡ true
+pub agrees_from : (a b : Bool) → a ≡ b → are_alike a b ≡ true
 agrees_from true true e = refl
 agrees_from false false e = refl
 agrees_from a b e = absurd (cc)
@@ -65,12 +65,12 @@ each_generation published generations test each =
     there g among (Some p) is = ap (holds_of test g) is ∙ each g p among is
 
 -- an area that these slots name stands in one of their anchors
-pub named_by : (slots : Slots) (words : List ℕ) (serial n : ℕ) → is_named_before slots words serial n ≡ true → (i : ℕ) × (i < n) × (names (word_at words (anchor_place i)) serial ≡ true)
+pub named_by : (slots : Slots) (words : List ℕ) (serial n : ℕ) → is_named_before slots words serial n ≡ true → (i : ℕ) × (i < n) × (anchor_names_area (word_at words (anchor_place i)) serial ≡ true)
 named_by slots words serial zero e = absurd (true≢false (sym e ∙ named_none slots words serial))
 named_by slots words serial (suc n) e =
-    elim (or_cases (is_named_before slots words serial n) (is_of slots (n / ANCHORS) && names (word_at words (anchor_place n)) serial) (sym (named_suc slots words serial n) ∙ e)) as (λ _. (i : ℕ) × (i < suc n) × (names (word_at words (anchor_place i)) serial ≡ true)) [
+    elim (or_cases (is_named_before slots words serial n) (is_slot_of slots (n / ANCHORS) && anchor_names_area (word_at words (anchor_place n)) serial) (sym (named_suc slots words serial n) ∙ e)) as (λ _. (i : ℕ) × (i < suc n) × (anchor_names_area (word_at words (anchor_place i)) serial ≡ true)) [
       | inl before ↦ let found = named_by slots words serial n before in (found.0, more found.0 n found.1, found.2)
-      | inr here ↦ (n, omega (arith), (and_parts (is_of slots (n / ANCHORS)) (names (word_at words (anchor_place n)) serial) here).1)
+      | inr here ↦ (n, omega (arith), (and_parts (is_slot_of slots (n / ANCHORS)) (anchor_names_area (word_at words (anchor_place n)) serial) here).1)
     ]
   where
     more : (m n : ℕ) → m < n → m < suc n

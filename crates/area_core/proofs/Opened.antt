@@ -3,14 +3,14 @@ use Rattle.std.proofs.Common.{◌≡◌, ℕ, zero, suc, false, List, [], ◌∷
 use Rattle.std.proofs.lemmas.List.{length-replicate}
 use Rattle.std.specs.Prelude.{◌==◌, slice_get}
 use Rattle.prgr_core.specs.declared.progress.Progress.{Progress}
-use Rattle.prgr_core.specs.Step.{opening as opening_progress, IsSound as IsProgressSound}
+use Rattle.prgr_core.specs.Step.{progress_opening as opening_progress, IsSound as IsProgressSound}
 use Rattle.area_core.specs.declared.map.TheConstants.{TABLE_WORDS, BUCKETS}
 use Rattle.area_core.specs.declared.table.Published.{Published}
 use Rattle.area_core.specs.declared.table.Table.{Table}
 use Rattle.area_core.specs.Map.{word_at, opening_words, slot_place}
 use Rattle.area_core.specs.Generations.{is_naming}
-use Rattle.area_core.specs.Terms.{looked, look_at, outcome, key_in, TermsStand}
-use Rattle.area_core.specs.Blocks.{BlockInvariant, RootFits, InstancesPlaced, CodeStands, BreakpointsStand, term_words, UsedAreKept, Among}
+use Rattle.area_core.specs.Terms.{looked, look_at, found_outcome, key_in, TermsStand}
+use Rattle.area_core.specs.Blocks.{BlockInvariant, RootFits, InstancesPlaced, CodeStands, BreakpointsStand, term_blocks_words, UsedAreKept, Among}
 use Rattle.area_core.specs.Step.{with_progress, opening_of, opening_published, blocks_of, IsReadable, IsSound}
 use Rattle.area_core.proofs.Counted.{opened}
 
@@ -38,11 +38,11 @@ length-opening_words count = ap (λ (words : List ℕ). length words) (sym (open
 -- ---- keys
 
 -- an empty bucket tells that the key is not there
-looks_on : (block : ℕ → ℕ) (key bucket : ℕ) (known : Option (Option ℕ)) → key_in block bucket ≡ 0 → outcome known ≡ None → outcome (look_at block key bucket known) ≡ None
+looks_on : (block : ℕ → ℕ) (key bucket : ℕ) (known : Option (Option ℕ)) → key_in block bucket ≡ 0 → found_outcome known ≡ None → found_outcome (look_at block key bucket known) ≡ None
 looks_on block key bucket (Some found) empty e = e
 looks_on block key bucket None empty e = rw empty refl
 
-looked_empty : (block : ℕ → ℕ) → ((at : ℕ) → block at ≡ 0) → (key n : ℕ) → outcome (looked block key n) ≡ None
+looked_empty : (block : ℕ → ℕ) → ((at : ℕ) → block at ≡ 0) → (key n : ℕ) → found_outcome (looked block key n) ≡ None
 unfolding looked
 looked_empty block empty key zero = refl
 looked_empty block empty key (suc n) = looks_on block key _ (looked block key n) (empty _) (looked_empty block empty key n)
@@ -62,10 +62,10 @@ module _ (word : ℕ → ℕ) (empty : (place : ℕ) → word place ≡ 0) where
   code_opened : CodeStands word opening_published
   code_opened entry within = ap (λ w. w == 0) (empty _)
 
-  terms_opened : TermsStand (term_words word opening_published.root) opening_published
+  terms_opened : TermsStand (term_blocks_words word opening_published.root) opening_published
   terms_opened = record {
     found = λ i k at. absurd (no_element i at);
-    only = λ key value found. absurd (let none = looked_empty (term_words word opening_published.root) (λ at. empty _) key BUCKETS in cc);
+    only = λ key value found. absurd (let none = looked_empty (term_blocks_words word opening_published.root) (λ at. empty _) key BUCKETS in cc);
   }
 
   used_opened : UsedAreKept [] opening_published
@@ -78,7 +78,7 @@ module _ (word : ℕ → ℕ) (empty : (place : ℕ) → word place ≡ 0) where
     instances_placed = each_published Counts InstancesPlaced (λ a is. absurd (none_among a is));
     code_stands = each_published Counts (CodeStands word) code_opened;
     breakpoints_stand = each_published Counts (BreakpointsStand word) (λ a is. absurd (none_among a is));
-    terms_stand = each_published Counts (λ p. TermsStand (term_words word p.root) p) terms_opened;
+    terms_stand = each_published Counts (λ p. TermsStand (term_blocks_words word p.root) p) terms_opened;
     used_kept = each_published Counts (UsedAreKept []) used_opened;
     areas_stand = λ g p counts at k is. absurd (none_among k is);
     images_stand = λ k is. absurd (none_among k is);

@@ -6,7 +6,7 @@ use Rattle.area_core.specs.declared.map.WordKind.TheVariants.{Retire, Doom, InBl
 use Rattle.area_core.specs.declared.table.Published.{Published}
 use Rattle.area_core.specs.declared.table.KeptArea.{KeptArea}
 use Rattle.area_core.specs.declared.table.Table.{Table}
-use Rattle.area_core.specs.Map.{word_at, kind_at, entry_at}
+use Rattle.area_core.specs.Map.{word_at, kind_at, image_entry_at}
 use Rattle.area_core.specs.Blocks.{Among, RetireTells, DoomTells, NamedAreKept, AnchorsApart}
 use Rattle.area_core.specs.Stores.{with_word}
 use Rattle.area_core.specs.Step.{IsReadable, IsSound, blocks_of}
@@ -33,7 +33,7 @@ module _ (s : Table) (sound : IsSound s) (place value : ℕ) (kind : WordKind) (
       terms_stand = terms_after (blocks_of s) (IsReadable s) (word_at (slice_set s.words place value)) kind off sound.blocks (λ g p counts here root at within same. outside _ at same);
       used_kept = sound.blocks.used_kept;
       areas_stand = λ g p counts here k among. record {
-        entries = entries_after (blocks_of s) (IsReadable s) (word_at (slice_set s.words place value)) kind off sound.blocks g p counts here k among (λ function has same none. absurd (outside k.area.block (entry_at function) same));
+        entries = entries_after (blocks_of s) (IsReadable s) (word_at (slice_set s.words place value)) kind off sound.blocks g p counts here k among (λ function has same none. absurd (outside k.area.block (image_entry_at function) same));
         retired = retired_after (blocks_of s) (IsReadable s) (word_at (slice_set s.words place value)) kind off sound.blocks g p counts here k among (retired g p counts here k among);
         doomed = doomed_after (blocks_of s) (IsReadable s) (word_at (slice_set s.words place value)) kind off sound.blocks g p counts here k among (doomed g p counts here k among);
       };

@@ -20,8 +20,8 @@ use Rattle.area_core.specs.declared.event.AreaEvent.{AreaEvent}
 use Rattle.area_core.specs.declared.event.AreaEvent.TheVariants.{LoadCounter, LoadRoot, Confirm, LoadConfirmed, StoreCounter, TakeLead, DropLead, LoadWord, StoreWord, StoreRoot, StoreWaiting, StoreEntering, SplitNote, JoinNote, StoreSlot, LoadSlot, StoreEntry, AddDelay, SubDelay, LoadDelay}
 use Rattle.area_core.specs.declared.table.Published.{Published}
 use Rattle.area_core.specs.declared.table.Table.{Table}
-use Rattle.area_core.specs.Map.{word_at, slot_place, block_place, entry_at, kind_at}
-use Rattle.area_core.specs.Readers.{readable_generations, is_of, may_read, MayRead}
+use Rattle.area_core.specs.Map.{word_at, slot_place, block_place, image_entry_at, kind_at}
+use Rattle.area_core.specs.Readers.{readable_generations, is_slot_of, may_read, MayRead}
 use Rattle.area_core.specs.Roots.{fresh_areas}
 use Rattle.area_core.specs.Stores.{with_word, holds_in_block, may_store_in_block, may_be_retire, may_be_doom, may_store_entry, entry_word, may_store_slot}
 use Rattle.area_core.specs.Step.{after, with_progress, after_progress, if_enabled, progress_if, has_seat, root_event, confirms, counter_loaded, word_stored, slot_stored_by, may_write_slot, to_publish, may_publish_in, published_in, appended, root_stored, IsSound}
@@ -95,16 +95,16 @@ module _ (s t : Table) (word : ℕ) where
         let found = and_then_some (slot_stored_by s k process place value) (slice_get s.progress.members k) t e in
         let made = enabled (may_write_slot s found.0 k process place && may_store_slot s process place value (slice_get s.published found.0.generation)) (with_word s (slot_place process place) value) t found.2 in
         let both = and_parts (may_write_slot s found.0 k process place) (may_store_slot s process place value (slice_get s.published found.0.generation)) made.0 in
-        let four = four_hold (is_value found.0.word) (nat_lt process PROCESSES) (is_of (OfMember k (length s.progress.members)) process) (nat_le place ANCHORS) both.0 in
+        let four = four_hold (is_value found.0.word) (nat_lt process PROCESSES) (is_slot_of (OfMember k (length s.progress.members)) process) (nat_le place ANCHORS) both.0 in
         other_left (slot_place process place) value Slot (kind_slot process place (ltb-true process PROCESSES four.1) (leb-true place ANCHORS four.3)) (λ same. absurd (cc)) made.1
 
     entry_left : (c : CodeRef) (on : Bool) → after s (StoreEntry c on) ≡ Some t → IsEntryStore (StoreEntry c on) word ⊎ Stays word s t
     entry_left c on e =
-        elim (cases_eq word (block_place c.area.block (entry_at c.function))) as (λ _. IsEntryStore (StoreEntry c on) word ⊎ Stays word s t) [
+        elim (cases_eq word (block_place c.area.block (image_entry_at c.function))) as (λ _. IsEntryStore (StoreEntry c on) word ⊎ Stays word s t) [
           | inl same ↦ inl (c, on, refl, same)
           | inr other ↦
-              let made = enabled (may_store_entry s (readable_generations s.progress) c on) (with_word s (block_place c.area.block (entry_at c.function)) (entry_word on)) t e in
-              inr (left (with_word s (block_place c.area.block (entry_at c.function)) (entry_word on)) made.1 (word_there s.words (block_place c.area.block (entry_at c.function)) (entry_word on) word other))
+              let made = enabled (may_store_entry s (readable_generations s.progress) c on) (with_word s (block_place c.area.block (image_entry_at c.function)) (entry_word on)) t e in
+              inr (left (with_word s (block_place c.area.block (image_entry_at c.function)) (entry_word on)) made.1 (word_there s.words (block_place c.area.block (image_entry_at c.function)) (entry_word on) word other))
         ]
 
     pub read_words_stay : (event : AreaEvent) (seat : SeatName) → MayRead s seat word → after s event ≡ Some t → IsEntryStore event word ⊎ Stays word s t

@@ -16,9 +16,9 @@ use Rattle.prgr_core.specs.declared.event.PrgrEvent.{PrgrEvent}
 use Rattle.prgr_core.specs.declared.event.PrgrEvent.TheVariants.{LoadCounter, LoadRoot, Report, Lead, Scan, ScanDelay, Advance, GiveUp, Wait, Enter, Publish, Retire, Release, WatchLoad, WatchAdd, WatchRoot, WatchSub}
 use Rattle.prgr_core.specs.Needs.{need_of}
 use Rattle.prgr_core.specs.Members.{HasLoadedRoot, is_waiting, counter_loaded, root_loaded, confirmed, leading, following, leading_with, waiting, entering, no_scans}
-use Rattle.prgr_core.specs.Watchers.{delay_of, delay_numbered, holds, may_look, may_add, is_claimed, may_leave, counter_watched, delay_added, root_watched, delay_dropped}
+use Rattle.prgr_core.specs.Watchers.{delay_of, delay_numbered, holds_delay, may_look, may_add, is_claimed, may_leave, counter_watched, delay_added, root_watched, delay_dropped}
 use Rattle.prgr_core.specs.Machine.{machine_of, MayRead, IsAmongWatchers, Readable}
-use Rattle.prgr_core.specs.Step.{with_member, with_watcher, by_role, after, IsSound, reported, led, scan_of, scan_of_other, delay_scan_of, delay_count, advanced, given_up, released, raised, lowered, with_retirement, with_pair}
+use Rattle.prgr_core.specs.Step.{with_member, with_watcher, by_role, after, IsSound, reported, led, scan_of, scan_of_other, delay_scan_of, delay_count, advanced, given_up, progress_released, raised, lowered, with_retirement, with_pair}
 use Rattle.prgr_core.proofs.Parts.{and_then_some, unless_some, unless_made, some_same, slice_get-slice_set}
 use Rattle.prgr_core.proofs.GraceHolds.{loaded_before_root}
 use Rattle.prgr_core.proofs.SoundParts.{is_member}
@@ -100,16 +100,16 @@ module _ (s : Progress) (sound : IsSound s) where
 
   -- a watcher that holds a generation has a claim
   held_reads : (w g : ℕ) (a : Watcher) → slice_get s.watchers w ≡ Some a → a.generation ≡ Some g → Readable (machine_of s) g
-  held_reads w g a at holds = inr (inr (a, (w, at), (sound.invariant.each_watcher a (w, at)).root_claimed g holds, holds))
+  held_reads w g a at holds_delay = inr (inr (a, (w, at), (sound.invariant.each_watcher a (w, at)).root_claimed g holds_delay, holds_delay))
 
   watched_reads : (w : ℕ) (a b : Watcher) → slice_get s.watchers w ≡ Some a → WatcherReads s.generation a b → (x : Watcher) → IsAmongWatchers (slice_set s.watchers w b) x → (g : ℕ) → x.generation ≡ Some g → Readable (machine_of s) g
-  watched_reads w a b at reads x is g holds =
+  watched_reads w a b at reads x is g holds_delay =
       elim (slice_get-slice_set s.watchers w b is.0 x is.1) as (λ _. Readable (machine_of s) g) [
-        | inl here ↦ elim (reads g (sym (ap (λ (y : Watcher). y.generation) here.1) ∙ holds)) as (λ _. Readable (machine_of s) g) [
+        | inl here ↦ elim (reads g (sym (ap (λ (y : Watcher). y.generation) here.1) ∙ holds_delay)) as (λ _. Readable (machine_of s) g) [
           | inl newest ↦ inl newest
           | inr before ↦ held_reads w g a at before
         ]
-        | inr other ↦ held_reads is.0 g x other.1 holds
+        | inr other ↦ held_reads is.0 g x other.1 holds_delay
       ]
 
   watcher_event : (w : ℕ) (a b : Watcher) (even odd : ℕ) → slice_get s.watchers w ≡ Some a → WatcherReads s.generation a b → ReadsNoMore s (record s { watchers = slice_set s.watchers w b; delay_even = even; delay_odd = odd })
@@ -238,9 +238,9 @@ module _ (s : Progress) (sound : IsSound s) where
   watch_sub w which t e =
       let found = and_then_some _ _ t e in
       let a = found.0 in
-      let named = and_then_some (λ delay. if may_leave a.phase && holds delay a then Some (lowered s w a delay) else None) (delay_numbered which) t found.2 in
+      let named = and_then_some (λ delay. if may_leave a.phase && holds_delay delay a then Some (lowered s w a delay) else None) (delay_numbered which) t found.2 in
       let d = named.0 in
-      let made = cond_some (may_leave a.phase && holds d a) (lowered s w a d) t named.2 in
+      let made = cond_some (may_leave a.phase && holds_delay d a) (lowered s w a d) t named.2 in
       subst (ReadsNoMore s) made.1 (watcher_event w a (delay_dropped d a) (lowered s w a d).delay_even (lowered s w a d).delay_odd found.1 (λ g holds. absurd (cc)))
 
   -- ---- the events of the writer
@@ -250,7 +250,7 @@ module _ (s : Progress) (sound : IsSound s) where
       let made = cond_some _ (with_retirement s) t e in
       subst (ReadsNoMore s) made.1 (record { generation = refl; reads = λ g may. may })
 
-  release_some : (g : ℕ) (need : Option ℕ) (t : Progress) → released s g need ≡ Some t → ReadsNoMore s t
+  release_some : (g : ℕ) (need : Option ℕ) (t : Progress) → progress_released s g need ≡ Some t → ReadsNoMore s t
   release_some g None t e = absurd (cc)
   release_some g (Some need) t e =
       let kept : ReadsNoMore s (record s { needs = _ }) = record { generation = refl; reads = λ g may. may } in

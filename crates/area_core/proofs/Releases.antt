@@ -11,9 +11,9 @@ use Rattle.area_core.specs.declared.table.Published.{Published}
 use Rattle.area_core.specs.declared.table.KeptArea.{KeptArea}
 use Rattle.area_core.specs.declared.table.Table.{Table}
 use Rattle.area_core.specs.Map.{word_at, kind_at, slot_place, anchor_place}
-use Rattle.area_core.specs.Generations.{is_used, is_retired, is_kept, is_kept_as, has_area, has_image, tells, agrees, serial_in, is_naming, names}
+use Rattle.area_core.specs.Generations.{is_used, is_retired_area, is_kept, is_kept_as, has_area, has_image, tells, are_alike, serial_in, is_naming, anchor_names_area}
 use Rattle.area_core.specs.Blocks.{Among, IsAnchor}
-use Rattle.area_core.specs.Readers.{readable_generations, is_of, is_named, is_named_before, all_anchors, holds_of_each}
+use Rattle.area_core.specs.Readers.{readable_generations, is_slot_of, is_named_area, is_named_before, all_anchors, holds_of_each}
 use Rattle.area_core.specs.Stores.{with_word, holds_in_block, is_released_by, may_release, may_be_retire, kept_after}
 use Rattle.area_core.specs.Step.{IsReadable, IsSound}
 use Rattle.area_core.proofs.Counted.{named_suc}
@@ -25,19 +25,19 @@ use Rattle.area_core.proofs.AreaStores.{retire_word_kept}
 -- ---- what slots name
 
 -- an anchor that names an area is found among those of the slots
-named_among : (slots : Slots) (words : List ℕ) (serial n i : ℕ) → i < n → (is_of slots (i / ANCHORS) && names (word_at words (anchor_place i)) serial) ≡ true → is_named_before slots words serial n ≡ true
+named_among : (slots : Slots) (words : List ℕ) (serial n i : ℕ) → i < n → (is_slot_of slots (i / ANCHORS) && anchor_names_area (word_at words (anchor_place i)) serial) ≡ true → is_named_before slots words serial n ≡ true
 named_among slots words serial zero i below passes = absurd (omega (arith))
 named_among slots words serial (suc n) i below passes =
     named_suc slots words serial n
-    ∙ elim (cases_lt i n) as (λ _. (is_named_before slots words serial n || (is_of slots (n / ANCHORS) && names (word_at words (anchor_place n)) serial)) ≡ true) [
-      | inl before ↦ or_left (is_named_before slots words serial n) (is_of slots (n / ANCHORS) && names (word_at words (anchor_place n)) serial) (named_among slots words serial n i before passes)
+    ∙ elim (cases_lt i n) as (λ _. (is_named_before slots words serial n || (is_slot_of slots (n / ANCHORS) && anchor_names_area (word_at words (anchor_place n)) serial)) ≡ true) [
+      | inl before ↦ or_left (is_named_before slots words serial n) (is_slot_of slots (n / ANCHORS) && anchor_names_area (word_at words (anchor_place n)) serial) (named_among slots words serial n i before passes)
       | inr last ↦
           let same : i ≡ n = omega (arith) in
-          or_right (is_named_before slots words serial n) (is_of slots (n / ANCHORS) && names (word_at words (anchor_place n)) serial) (subst (λ m. (is_of slots (m / ANCHORS) && names (word_at words (anchor_place m)) serial) ≡ true) same passes)
+          or_right (is_named_before slots words serial n) (is_slot_of slots (n / ANCHORS) && anchor_names_area (word_at words (anchor_place n)) serial) (subst (λ m. (is_slot_of slots (m / ANCHORS) && anchor_names_area (word_at words (anchor_place m)) serial) ≡ true) same passes)
     ]
 
 -- so the area that an anchor of some slot names
-pub anchor_names : (words : List ℕ) (process anchor : ℕ) → IsAnchor process anchor → IsTrue (is_naming (word_at words (slot_place process anchor))) → is_named All words (serial_in (word_at words (slot_place process anchor))) ≡ true
+pub anchor_names : (words : List ℕ) (process anchor : ℕ) → IsAnchor process anchor → IsTrue (is_naming (word_at words (slot_place process anchor))) → is_named_area All words (serial_in (word_at words (slot_place process anchor))) ≡ true
 anchor_names words process anchor is naming =
     let first = is.first in
     let last = is.last in
@@ -47,7 +47,7 @@ anchor_names words process anchor is naming =
     let column : (process * 16 + (anchor - 1)) % 16 + 1 ≡ anchor = omega (arith) in
     let place : anchor_place (process * 16 + (anchor - 1)) ≡ slot_place process anchor = ap (λ x. slot_place x ((process * 16 + (anchor - 1)) % 16 + 1)) row ∙ ap (slot_place process) column in
     named_among All words (serial_in (word_at words (slot_place process anchor))) all_anchors (process * 16 + (anchor - 1)) (omega (arith))
-    (ap (λ x. names (word_at words x) (serial_in (word_at words (slot_place process anchor)))) place
+    (ap (λ x. anchor_names_area (word_at words x) (serial_in (word_at words (slot_place process anchor)))) place
     ∙ and_from (is_naming (word_at words (slot_place process anchor))) (serial_in (word_at words (slot_place process anchor)) == serial_in (word_at words (slot_place process anchor))) naming (eq-eqb (serial_in (word_at words (slot_place process anchor))) (serial_in (word_at words (slot_place process anchor))) refl))
 
 -- ---- a release
@@ -56,7 +56,7 @@ anchor_names words process anchor is naming =
 pub release_kept :
     (s : Table) → IsSound s → (stays : KeptArea → Bool)
     → ((g : ℕ) (p : Published) → IsReadable s g → slice_get s.published g ≡ Some p → (k : KeptArea) → Among s.kept k → is_used p k.area.serial ≡ true → stays k ≡ true)
-    → ((k : KeptArea) → Among s.kept k → is_named All s.words k.area.serial ≡ true → stays k ≡ true)
+    → ((k : KeptArea) → Among s.kept k → is_named_area All s.words k.area.serial ≡ true → stays k ≡ true)
     → IsSound (record s { kept = filter stays s.kept })
 release_kept s sound stays used named = record {
   progress = sound.progress;
@@ -95,18 +95,18 @@ release_kept s sound stays used named = record {
         let serial : ℕ = serial_in (word_at s.words (slot_place process anchor)) in
         let found = passed_by (λ (k : KeptArea). k.area.serial == serial_in (word_at s.words (slot_place process anchor))) s.kept (sound.blocks.named_kept process anchor is naming) in
         let same = eqb-true found.0.area.serial (serial_in (word_at s.words (slot_place process anchor))) found.3 in
-        filter_keeps stays (λ (k : KeptArea). k.area.serial == serial_in (word_at s.words (slot_place process anchor))) s.kept found.1 found.0 found.2 (named found.0 (found.1, found.2) (ap (is_named All s.words) same ∙ anchor_names s.words process anchor is naming)) found.3
+        filter_keeps stays (λ (k : KeptArea). k.area.serial == serial_in (word_at s.words (slot_place process anchor))) s.kept found.1 found.0 found.2 (named found.0 (found.1, found.2) (ap (is_named_area All s.words) same ∙ anchor_names s.words process anchor is naming)) found.3
 
 -- ---- a store that the test lets through
 
 module _ (s : Table) (sound : IsSound s) (word value block : ℕ) (is : kind_at word ≡ Retire block) (may : IsTrue (holds_in_block s.kept block (may_be_retire s (readable_generations s.progress) value))) where
   -- an area that is released may be
-  released : (k : KeptArea) → Among s.kept k → k.area.block ≡ block → is_released_by s value k ≡ true → (is_named All s.words k.area.serial ≡ false) × (holds_of_each s.published (readable_generations s.progress) (λ g p. not (is_used p k.area.serial)) ≡ true)
+  released : (k : KeptArea) → Among s.kept k → k.area.block ≡ block → is_released_by s value k ≡ true → (is_named_area All s.words k.area.serial ≡ false) × (holds_of_each s.published (readable_generations s.progress) (λ g p. not (is_used p k.area.serial)) ≡ true)
   released k among same goes =
       let passes = in_block_passes s.kept block (may_be_retire s (readable_generations s.progress) value) k may among same in
-      let chosen = sym (cond-true (is_released_by s value k) (may_release s (readable_generations s.progress) k) (holds_of_each s.published (readable_generations s.progress) (λ g p. agrees (tells value g) (is_retired p k.area.serial))) goes) ∙ passes in
-      let parts = and_parts (not (is_named All s.words k.area.serial)) (holds_of_each s.published (readable_generations s.progress) (λ g p. not (is_used p k.area.serial))) chosen in
-      (not-true (is_named All s.words k.area.serial) parts.0, parts.1)
+      let chosen = sym (cond-true (is_released_by s value k) (may_release s (readable_generations s.progress) k) (holds_of_each s.published (readable_generations s.progress) (λ g p. are_alike (tells value g) (is_retired_area p k.area.serial))) goes) ∙ passes in
+      let parts = and_parts (not (is_named_area All s.words k.area.serial)) (holds_of_each s.published (readable_generations s.progress) (λ g p. not (is_used p k.area.serial))) chosen in
+      (not-true (is_named_area All s.words k.area.serial) parts.0, parts.1)
 
   pub retire_stored : IsSound (record (with_word s word value) { kept = kept_after s block value })
   retire_stored =
@@ -115,8 +115,8 @@ module _ (s : Table) (sound : IsSound s) (word value block : ℕ) (is : kind_at 
       let was = filter_gives (λ k. not ((k.area.block == block) && is_released_by s value k)) s.kept among.0 k among.1 in
       let unreleased = not_both (k.area.block == block) (is_released_by s value k) was.1 (eq-eqb k.area.block block same) in
       let passes = in_block_passes s.kept block (may_be_retire s (readable_generations s.progress) value) k may was.0 same in
-      let chosen = sym (cond-false (is_released_by s value k) (may_release s (readable_generations s.progress) k) (holds_of_each s.published (readable_generations s.progress) (λ g p. agrees (tells value g) (is_retired p k.area.serial))) unreleased) ∙ passes in
-      agrees_same (tells value g) (is_retired p k.area.serial) (generation_passes s.published (readable_generations s.progress) (λ g p. agrees (tells value g) (is_retired p k.area.serial)) g p chosen (readable_held s.progress sound.progress g counts) here))
+      let chosen = sym (cond-false (is_released_by s value k) (may_release s (readable_generations s.progress) k) (holds_of_each s.published (readable_generations s.progress) (λ g p. are_alike (tells value g) (is_retired_area p k.area.serial))) unreleased) ∙ passes in
+      agrees_same (tells value g) (is_retired_area p k.area.serial) (generation_passes s.published (readable_generations s.progress) (λ g p. are_alike (tells value g) (is_retired_area p k.area.serial)) g p chosen (readable_held s.progress sound.progress g counts) here))
     where
       not_both : (a b : Bool) → not (a && b) ≡ true → a ≡ true → b ≡ false
       not_both true b e both = not-true b e

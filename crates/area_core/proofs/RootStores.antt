@@ -19,7 +19,7 @@ use Rattle.area_core.specs.declared.table.Table.{Table}
 use Rattle.area_core.specs.Map.{word_at, slot_place}
 use Rattle.area_core.specs.Generations.{is_kept_as, serial_in}
 use Rattle.area_core.specs.Terms.{TermsStand, terms_stand}
-use Rattle.area_core.specs.Blocks.{Among, RootFits, InstancesPlaced, CodeStands, BreakpointsStand, term_words, UsedAreKept, FitsBlock, ImageStands, AreaStands, EachCounted}
+use Rattle.area_core.specs.Blocks.{Among, RootFits, InstancesPlaced, CodeStands, BreakpointsStand, term_blocks_words, UsedAreKept, FitsBlock, ImageStands, AreaStands, EachCounted}
 use Rattle.area_core.specs.Readers.{held_generations, holds_of_each}
 use Rattle.area_core.specs.Roots.{root_fits, instances_placed, blocks_stand, code_stands, breakpoints_stand, fresh_areas, fits_block, image_stands, area_stands, is_fresh_sound, are_apart, used_are_kept}
 use Rattle.area_core.specs.Step.{after, to_publish, may_publish_in, published_in, appended, IsReadable, IsSound, blocks_of}
@@ -78,7 +78,7 @@ module _ (s : Table) (sound : IsSound s) (p : Published) (fresh : List KeptArea)
       instances_placed = each_after (λ (g : ℕ) (q : Published). InstancesPlaced q) (instances_say p placed) (λ g q counts among at. sound.blocks.instances_placed g q counts at);
       code_stands = each_after (λ (g : ℕ) (q : Published). CodeStands (word_at s.words) q) (code_says s.words p parts.0) (λ g q counts among at. sound.blocks.code_stands g q counts at);
       breakpoints_stand = each_after (λ (g : ℕ) (q : Published). BreakpointsStand (word_at s.words) q) (breakpoints_say s.words p parts.1) (λ g q counts among at. sound.blocks.breakpoints_stand g q counts at);
-      terms_stand = each_after (λ (g : ℕ) (q : Published). TermsStand (term_words (word_at s.words) q.root) q) (terms_stand_true (term_words (word_at s.words) p.root) p parts.2) (λ g q counts among at. sound.blocks.terms_stand g q counts at);
+      terms_stand = each_after (λ (g : ℕ) (q : Published). TermsStand (term_blocks_words (word_at s.words) q.root) q) (terms_stand_true (term_blocks_words (word_at s.words) p.root) p parts.2) (λ g q counts among at. sound.blocks.terms_stand g q counts at);
       used_kept = each_after (λ (g : ℕ) (q : Published). UsedAreKept (s.kept ++ fresh) q) (used_say (s.kept ++ fresh) p used) (λ g q counts among at serial uses. more (is_kept_as q serial) (sound.blocks.used_kept g q counts at serial uses));
       areas_stand = each_after (λ (g : ℕ) (q : Published). (k : KeptArea) → Among (s.kept ++ fresh) k → AreaStands (word_at s.words) k g q)
           (λ k is. area_says s.words k (s.progress.generation + 1) p (all_fit k is) (each_passes (λ (k : KeptArea). area_stands s.words k (s.progress.generation + 1) p) (s.kept ++ fresh) is.0 k areas is.1))
@@ -93,8 +93,8 @@ module _ (s : Table) (sound : IsSound s) (p : Published) (fresh : List KeptArea)
     published = length-append s.published (p ∷ []) ∙ ap (λ (n : ℕ). n + 1) sound.published;
   }
     where
-      parts : (code_stands s.words p EXPORT_ENTRIES ≡ true) × (breakpoints_stand s.words p ≡ true) × (terms_stand (term_words (word_at s.words) p.root) p ≡ true)
-      parts = three_hold (code_stands s.words p EXPORT_ENTRIES) (breakpoints_stand s.words p) (terms_stand (term_words (word_at s.words) p.root) p) stands
+      parts : (code_stands s.words p EXPORT_ENTRIES ≡ true) × (breakpoints_stand s.words p ≡ true) × (terms_stand (term_blocks_words (word_at s.words) p.root) p ≡ true)
+      parts = three_hold (code_stands s.words p EXPORT_ENTRIES) (breakpoints_stand s.words p) (terms_stand (term_blocks_words (word_at s.words) p.root) p) stands
 
       more : (test : KeptArea → Bool) → list_any test s.kept ≡ true → list_any test (s.kept ++ fresh) ≡ true
       more test passes = any_joined test s.kept fresh ∙ or_left (list_any test s.kept) (list_any test fresh) passes

@@ -14,8 +14,8 @@ use Rattle.area_core.specs.declared.map.TheConstants.{BLOCKS, BIG_BLOCKS, BIG_WO
 use Rattle.area_core.specs.declared.table.Root.{Root}
 use Rattle.area_core.specs.declared.table.Published.{Published}
 use Rattle.area_core.specs.declared.table.KeptArea.{KeptArea}
-use Rattle.area_core.specs.Map.{word_at, block_place, breakpoint_place, retire_place, doom_place, entry_at, room_of}
-use Rattle.area_core.specs.Generations.{is_instance, is_retired, is_doomed, is_traced, is_key_area, holds_area, has_serial, is_kept_as, functions_of, has_function, is_entry_word, is_code_word, traced_word, tells, agrees}
+use Rattle.area_core.specs.Map.{word_at, block_place, breakpoint_place, retire_place, doom_place, image_entry_at, room_of}
+use Rattle.area_core.specs.Generations.{is_instance, is_retired_area, is_doomed_area, is_traced_function, is_key_area, holds_area, has_serial, is_kept_as, functions_in_image, has_function, is_entry_word, is_code_word, traced_word, tells, are_alike}
 use Rattle.area_core.specs.Stores.{is_image_word}
 use Rattle.area_core.specs.Blocks.{RootFits, IsForInstances, InstancesPlaced, CodeStands, BreakpointsStand, UsedAreKept, FitsBlock, ImageStands, AreaStands, KeptApart}
 use Rattle.area_core.specs.Roots.{root_fits, is_for_instances, instances_placed, code_stands, traces_stand, breakpoints_stand, fits_block, is_apart, are_apart, image_stands, entries_stand, retire_tells, doom_tells, area_stands, is_holding_kept, used_are_kept}
@@ -70,7 +70,7 @@ breakpoints_say words p e a among instance function few =
 
 pub fits_says : (k : KeptArea) → fits_block k ≡ true → FitsBlock k
 fits_says k e =
-    let parts = four_hold (nat_le AREAS_START k.area.block) (nat_lt k.area.block BLOCKS) (nat_le (length k.words) (room_of k.area.block)) (not (nat_lt k.area.block BIG_BLOCKS) || nat_le (functions_of k.words) FUNCTIONS) e in
+    let parts = four_hold (nat_le AREAS_START k.area.block) (nat_lt k.area.block BLOCKS) (nat_le (length k.words) (room_of k.area.block)) (not (nat_lt k.area.block BIG_BLOCKS) || nat_le (functions_in_image k.words) FUNCTIONS) e in
     record {
       first = leb-true AREAS_START k.area.block parts.0;
       last = ltb-true k.area.block BLOCKS parts.1;
@@ -78,11 +78,11 @@ fits_says k e =
       functions = λ big. few big parts.3;
     }
   where
-    few : k.area.block < BIG_BLOCKS → (not (nat_lt k.area.block BIG_BLOCKS) || nat_le (functions_of k.words) FUNCTIONS) ≡ true → functions_of k.words ≤ FUNCTIONS
+    few : k.area.block < BIG_BLOCKS → (not (nat_lt k.area.block BIG_BLOCKS) || nat_le (functions_in_image k.words) FUNCTIONS) ≡ true → functions_in_image k.words ≤ FUNCTIONS
     few big may =
-        elim (or_cases (not (nat_lt k.area.block BIG_BLOCKS)) (nat_le (functions_of k.words) FUNCTIONS) may) as (λ _. functions_of k.words ≤ FUNCTIONS) [
+        elim (or_cases (not (nat_lt k.area.block BIG_BLOCKS)) (nat_le (functions_in_image k.words) FUNCTIONS) may) as (λ _. functions_in_image k.words ≤ FUNCTIONS) [
           | inl other ↦ absurd (true≢false (sym (lt-ltb k.area.block BIG_BLOCKS big) ∙ not-true (nat_lt k.area.block BIG_BLOCKS) other))
-          | inr within ↦ leb-true (functions_of k.words) FUNCTIONS within
+          | inr within ↦ leb-true (functions_in_image k.words) FUNCTIONS within
         ]
 
 most_room : (block : ℕ) → room_of block ≤ 1024
@@ -107,21 +107,21 @@ area_says words k g p fits e =
     let parts = three_hold (entries_stand words k p FUNCTIONS) (retire_tells words k g p) (doom_tells words k g p) e in
     record {
       entries = λ function has none. entry function has none parts.0;
-      retired = agrees_same (tells (word_at words (retire_place k.area.block)) g) (is_retired p k.area.serial) parts.1;
+      retired = agrees_same (tells (word_at words (retire_place k.area.block)) g) (is_retired_area p k.area.serial) parts.1;
       doomed = λ big unretired. doom big unretired parts.2;
     }
   where
-    entry : (function : ℕ) → IsTrue (has_function k function) → word_at words (block_place k.area.block (entry_at function)) ≡ 0 → entries_stand words k p FUNCTIONS ≡ true → is_traced p k.area.serial function ≡ false
+    entry : (function : ℕ) → IsTrue (has_function k function) → word_at words (block_place k.area.block (image_entry_at function)) ≡ 0 → entries_stand words k p FUNCTIONS ≡ true → is_traced_function p k.area.serial function ≡ false
     entry function has none all =
-        none_of_three (has_function k function) (word_at words (block_place k.area.block (entry_at function)) == 0) (is_traced p k.area.serial function)
-        (count_each (entries_stand words k p) (λ (n : ℕ). not (has_function k n) || not (word_at words (block_place k.area.block (entry_at n)) == 0) || not (is_traced p k.area.serial n)) (entries_suc words k p) FUNCTIONS function all (function_fits k function fits has).1)
-        has (eq-eqb (word_at words (block_place k.area.block (entry_at function))) 0 none)
+        none_of_three (has_function k function) (word_at words (block_place k.area.block (image_entry_at function)) == 0) (is_traced_function p k.area.serial function)
+        (count_each (entries_stand words k p) (λ (n : ℕ). not (has_function k n) || not (word_at words (block_place k.area.block (image_entry_at n)) == 0) || not (is_traced_function p k.area.serial n)) (entries_suc words k p) FUNCTIONS function all (function_fits k function fits has).1)
+        has (eq-eqb (word_at words (block_place k.area.block (image_entry_at function))) 0 none)
 
-    doom : k.area.block < BIG_BLOCKS → is_retired p k.area.serial ≡ false → doom_tells words k g p ≡ true → tells (word_at words (doom_place k.area.block)) g ≡ is_doomed p k.area.serial
+    doom : k.area.block < BIG_BLOCKS → is_retired_area p k.area.serial ≡ false → doom_tells words k g p ≡ true → tells (word_at words (doom_place k.area.block)) g ≡ is_doomed_area p k.area.serial
     doom big unretired all =
-        elim (one_of_two (nat_lt k.area.block BIG_BLOCKS) (is_retired p k.area.serial) (agrees (tells (word_at words (doom_place k.area.block)) g) (is_doomed p k.area.serial)) all (lt-ltb k.area.block BIG_BLOCKS big)) as (λ _. tells (word_at words (doom_place k.area.block)) g ≡ is_doomed p k.area.serial) [
+        elim (one_of_two (nat_lt k.area.block BIG_BLOCKS) (is_retired_area p k.area.serial) (are_alike (tells (word_at words (doom_place k.area.block)) g) (is_doomed_area p k.area.serial)) all (lt-ltb k.area.block BIG_BLOCKS big)) as (λ _. tells (word_at words (doom_place k.area.block)) g ≡ is_doomed_area p k.area.serial) [
           | inl retired ↦ absurd (true≢false (sym retired ∙ unretired))
-          | inr agree ↦ agrees_same (tells (word_at words (doom_place k.area.block)) g) (is_doomed p k.area.serial) agree
+          | inr agree ↦ agrees_same (tells (word_at words (doom_place k.area.block)) g) (is_doomed_area p k.area.serial) agree
         ]
 
 -- ---- what is used

@@ -11,8 +11,8 @@ use Rattle.area_core.specs.declared.map.WordKind.TheVariants.{Machine, Slot, Ret
 use Rattle.area_core.specs.declared.readers.Slots.TheVariants.{OfMember}
 use Rattle.area_core.specs.declared.event.AreaEvent.TheVariants.{StoreWord, StoreEntry, StoreSlot}
 use Rattle.area_core.specs.declared.table.Table.{Table}
-use Rattle.area_core.specs.Map.{kind_at, slot_place, block_place, entry_at}
-use Rattle.area_core.specs.Readers.{readable_generations, is_of}
+use Rattle.area_core.specs.Map.{kind_at, slot_place, block_place, image_entry_at}
+use Rattle.area_core.specs.Readers.{readable_generations, is_slot_of}
 use Rattle.area_core.specs.Stores.{with_word, holds_in_block, may_store_in_block, may_be_retire, kept_after, may_be_doom, may_store_entry, entry_word, may_store_slot}
 use Rattle.area_core.specs.Step.{after, word_stored, slot_stored_by, may_write_slot, IsSound}
 use Rattle.area_core.proofs.Tests.{four_hold}
@@ -44,7 +44,7 @@ word_store_keeps s t word value sound e = by_kind (kind_at word) refl e
 -- a store of an entry word
 pub entry_store_keeps : (s t : Table) (at : CodeRef) (on : Bool) → IsSound s → after s (StoreEntry at on) ≡ Some t → IsSound t
 entry_store_keeps s t at on sound e =
-    let stored = enabled (may_store_entry s (readable_generations s.progress) at on) (with_word s (block_place at.area.block (entry_at at.function)) (entry_word on)) t e in
+    let stored = enabled (may_store_entry s (readable_generations s.progress) at on) (with_word s (block_place at.area.block (image_entry_at at.function)) (entry_word on)) t e in
     subst IsSound stored.1 (entry_stored_sound s sound at on stored.0)
 
 -- a store into a slot
@@ -53,5 +53,5 @@ slot_store_keeps s t k process place value sound e =
     let found = and_then_some (slot_stored_by s k process place value) (slice_get s.progress.members k) t e in
     let stored = enabled (may_write_slot s found.0 k process place && may_store_slot s process place value (slice_get s.published found.0.generation)) (with_word s (slot_place process place) value) t found.2 in
     let both = and_parts (may_write_slot s found.0 k process place) (may_store_slot s process place value (slice_get s.published found.0.generation)) stored.0 in
-    let four = four_hold (is_value found.0.word) (nat_lt process PROCESSES) (is_of (OfMember k (length s.progress.members)) process) (nat_le place ANCHORS) both.0 in
+    let four = four_hold (is_value found.0.word) (nat_lt process PROCESSES) (is_slot_of (OfMember k (length s.progress.members)) process) (nat_le place ANCHORS) both.0 in
     subst IsSound stored.1 (slot_stored_sound s sound k process place value found.0 found.1 four.0 (ltb-true process PROCESSES four.1) (leb-true place ANCHORS four.3) both.1)

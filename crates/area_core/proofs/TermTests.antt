@@ -8,7 +8,7 @@ use Rattle.term_core.specs.declared.generation.KeyTerm.{KeyTerm}
 use Rattle.area_core.specs.declared.map.TheConstants.{BUCKETS}
 use Rattle.area_core.specs.declared.table.Published.{Published}
 use Rattle.area_core.specs.Generations.{is_term_word}
-use Rattle.area_core.specs.Terms.{key_in, value_in, bucket_of, found_in, is_word_of, TermsStand, is_found, is_bucket, holds_one_of, is_known, is_bucket_known, are_found, are_buckets_known, terms_stand}
+use Rattle.area_core.specs.Terms.{key_in, bucket_value, bucket_of, found_in, is_word_of, TermsStand, is_found, is_bucket, holds_one_of, is_known, is_bucket_known, are_found, are_buckets_known, terms_stand}
 use Rattle.area_core.proofs.Buckets.{has_key}
 use Rattle.area_core.proofs.Counted.{known_none, known_suc}
 use Rattle.area_core.proofs.Tests.{some_passes, passed_by, each_passes, all_pass}
@@ -97,7 +97,7 @@ module _ (block : ℕ → ℕ) (p : Published) where
       }
     where
       by_bucket : (key word : ℕ) (at : Option ℕ) → bucket_of block key ≡ at → found_in block key ≡ Some word → IsTrue (list_any (is_word_of p key word) p.state.keys)
-      by_bucket key word None is found = absurd (not_found (found_in block key) word (ap (option_map (value_in block)) is) found)
+      by_bucket key word None is found = absurd (not_found (found_in block key) word (ap (option_map (bucket_value block)) is) found)
         where
           not_found : (known : Option ℕ) (word : ℕ) → known ≡ None → known ≡ Some word → ⊥
           not_found known word none some = absurd (cc)
@@ -107,8 +107,8 @@ module _ (block : ℕ → ℕ) (p : Published) where
   stands_known : (key : ℕ) (at : Option ℕ) → TermsStand block p → bucket_of block key ≡ at → is_known block p.state.keys at ≡ true
   stands_known key None stands is = refl
   stands_known key (Some bucket) stands is =
-      let one = passed_by (is_word_of p key (value_in block bucket)) p.state.keys (stands.only key (value_in block bucket) (ap (option_map (value_in block)) is)) in
-      let same = eqb-true one.0.key.0 key (and_parts (one.0.key.0 == key) (is_term_word p one.0.holding (value_in block bucket)) one.3).0 in
+      let one = passed_by (is_word_of p key (bucket_value block bucket)) p.state.keys (stands.only key (bucket_value block bucket) (ap (option_map (bucket_value block)) is)) in
+      let same = eqb-true one.0.key.0 key (and_parts (one.0.key.0 == key) (is_term_word p one.0.holding (bucket_value block bucket)) one.3).0 in
       some_passes (λ (k : KeyTerm). is_bucket bucket (bucket_of block k.key.0)) p.state.keys one.1 one.0 one.2
       (ap (is_bucket bucket) (ap (bucket_of block) same ∙ is) ∙ eq-eqb bucket bucket refl)
 

@@ -4,7 +4,7 @@ use Rattle.std.specs.Prelude.{◌==◌, slice_get}
 use Rattle.std.specs.List.{list_any, list_all, filter}
 use Rattle.std.proofs.lemmas.Bool.{and_parts, and_from, or_cases, or_left, or_right, eqb-true, cases_Bool, not-true}
 use Rattle.area_core.specs.declared.table.Published.{Published}
-use Rattle.area_core.specs.Generations.{agrees}
+use Rattle.area_core.specs.Generations.{are_alike}
 use Rattle.area_core.specs.Blocks.{Among}
 use Rattle.area_core.specs.Readers.{holds_of, holds_at, holds_of_each}
 
@@ -108,7 +108,7 @@ one_of_three true false false true e is = inr (inr refl)
 one_of_three a b c d e is = absurd (cc)
 
 -- two tests that agree
-pub agrees_same : (a b : Bool) → agrees a b ≡ true → a ≡ b
+pub agrees_same : (a b : Bool) → are_alike a b ≡ true → a ≡ b
 agrees_same true b e = sym e
 agrees_same false b e = sym (not-true b e)
 

@@ -17,8 +17,8 @@ use Rattle.area_core.specs.declared.event.AreaEvent.TheVariants.{StoreWord}
 use Rattle.area_core.specs.declared.table.KeptArea.{KeptArea}
 use Rattle.area_core.specs.declared.table.Table.{Table}
 use Rattle.area_core.specs.Map.{word_at, anchor_place, kind_at}
-use Rattle.area_core.specs.Generations.{names}
-use Rattle.area_core.specs.Readers.{held_by, held_by_member, held_by_watcher, in_member, in_watcher, held_generations, readable_generations, is_of, is_named_before, is_named, all_anchors, slots_read, own_slots_read, is_read_under, may_read_holding, MayRead, is_read}
+use Rattle.area_core.specs.Generations.{anchor_names_area}
+use Rattle.area_core.specs.Readers.{held_by, held_by_member, held_by_watcher, in_member, in_watcher, held_generations, readable_generations, is_slot_of, is_named_before, is_named_area, all_anchors, slots_read, own_slots_read, is_read_under, may_read_holding, MayRead, is_read}
 use Rattle.area_core.specs.Stores.{with_word, holds_in_block, may_be_in_image, may_store_in_block}
 use Rattle.area_core.specs.Step.{after, word_stored, if_enabled, IsSound}
 use Rattle.area_core.proofs.Counted.{named_none, named_suc}
@@ -58,9 +58,9 @@ named_by_all : (slots : Slots) (words : List ℕ) (serial n : ℕ) → is_named_
 named_by_all slots words serial zero e = absurd (true≢false (sym e ∙ named_none slots words serial))
 named_by_all slots words serial (suc n) e =
     named_suc All words serial n
-    ∙ elim (or_cases (is_named_before slots words serial n) (is_of slots (n / ANCHORS) && names (word_at words (anchor_place n)) serial) (sym (named_suc slots words serial n) ∙ e)) as (λ _. (is_named_before All words serial n || names (word_at words (anchor_place n)) serial) ≡ true) [
-      | inl before ↦ or_left (is_named_before All words serial n) (names (word_at words (anchor_place n)) serial) (named_by_all slots words serial n before)
-      | inr here ↦ or_right (is_named_before All words serial n) (names (word_at words (anchor_place n)) serial) (and_parts (is_of slots (n / ANCHORS)) (names (word_at words (anchor_place n)) serial) here).1
+    ∙ elim (or_cases (is_named_before slots words serial n) (is_slot_of slots (n / ANCHORS) && anchor_names_area (word_at words (anchor_place n)) serial) (sym (named_suc slots words serial n) ∙ e)) as (λ _. (is_named_before All words serial n || anchor_names_area (word_at words (anchor_place n)) serial) ≡ true) [
+      | inl before ↦ or_left (is_named_before All words serial n) (anchor_names_area (word_at words (anchor_place n)) serial) (named_by_all slots words serial n before)
+      | inr here ↦ or_right (is_named_before All words serial n) (anchor_names_area (word_at words (anchor_place n)) serial) (and_parts (is_slot_of slots (n / ANCHORS)) (anchor_names_area (word_at words (anchor_place n)) serial) here).1
     ]
 
 -- what the slots of a seat read of a block, all slots do
@@ -68,10 +68,10 @@ own_by_all : (s : Table) (seat : SeatName) (block at : ℕ) → own_slots_read s
 own_by_all s seats.Writer block at e = absurd (cc)
 own_by_all s (seats.Watcher k) block at e = absurd (cc)
 own_by_all s (seats.Member k) block at e =
-    let found = passed_by (λ (x : KeptArea). (x.area.block == block) && is_named (OfMember k (length s.progress.members)) s.words x.area.serial) s.kept e in
-    let parts = and_parts (found.0.area.block == block) (is_named (OfMember k (length s.progress.members)) s.words found.0.area.serial) found.3 in
-    some_passes (λ (x : KeptArea). (x.area.block == block) && is_named All s.words x.area.serial) s.kept found.1 found.0 found.2
-    (and_from (found.0.area.block == block) (is_named All s.words found.0.area.serial) parts.0 (named_by_all (OfMember k (length s.progress.members)) s.words found.0.area.serial all_anchors parts.1))
+    let found = passed_by (λ (x : KeptArea). (x.area.block == block) && is_named_area (OfMember k (length s.progress.members)) s.words x.area.serial) s.kept e in
+    let parts = and_parts (found.0.area.block == block) (is_named_area (OfMember k (length s.progress.members)) s.words found.0.area.serial) found.3 in
+    some_passes (λ (x : KeptArea). (x.area.block == block) && is_named_area All s.words x.area.serial) s.kept found.1 found.0 found.2
+    (and_from (found.0.area.block == block) (is_named_area All s.words found.0.area.serial) parts.0 (named_by_all (OfMember k (length s.progress.members)) s.words found.0.area.serial all_anchors parts.1))
 
 -- ---- the store
 

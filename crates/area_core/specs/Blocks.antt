@@ -11,8 +11,8 @@ use Rattle.area_core.specs.declared.map.TheConstants.{PROCESSES, ANCHORS, BLOCKS
 use Rattle.area_core.specs.declared.table.Root.{Root}
 use Rattle.area_core.specs.declared.table.Published.{Published}
 use Rattle.area_core.specs.declared.table.KeptArea.{KeptArea}
-use Rattle.area_core.specs.Map.{slot_place, retire_place, doom_place, block_place, room_of, breakpoint_place, term_place, entry_at}
-use Rattle.area_core.specs.Generations.{is_instance, is_used, is_retired, is_doomed, is_traced, is_kept_as, is_kept, functions_of, has_function, is_entry_word, is_code_word, traced_word, tells, serial_in, is_naming}
+use Rattle.area_core.specs.Map.{slot_place, retire_place, doom_place, block_place, room_of, breakpoint_place, term_place, image_entry_at}
+use Rattle.area_core.specs.Generations.{is_instance, is_used, is_retired_area, is_doomed_area, is_traced_function, is_kept_as, is_kept, functions_in_image, has_function, is_entry_word, is_code_word, traced_word, tells, serial_in, is_naming}
 use Rattle.area_core.specs.Terms.{TermsStand}
 
 -- the words of the table by their places, the generations that were published, from 0 on, and the areas that were
@@ -54,8 +54,8 @@ BreakpointsStand word p =
     (a : AreaRef) → Among p.areas a → IsTrue (is_instance p a.serial) → (function : ℕ) → function < FUNCTIONS → word (breakpoint_place p.root.bp a.block function) ≡ traced_word p a.serial function
 
 -- the words of the term table of a root
-abbrev pub term_words : (ℕ → ℕ) → Root → ℕ → ℕ
-term_words word root at = word (term_place root.term at)
+abbrev pub term_blocks_words : (ℕ → ℕ) → Root → ℕ → ℕ
+term_blocks_words word root at = word (term_place root.term at)
 
 -- each current or old instance and each area of a key is kept, in its block and with its image
 abbrev pub UsedAreKept : List KeptArea → Published → Type 0
@@ -68,7 +68,7 @@ pub record FitsBlock (k : KeptArea) : Type 0 where
   pub first : AREAS_START ≤ k.area.block
   pub last : k.area.block < BLOCKS
   pub room : length k.words ≤ room_of k.area.block
-  pub functions : k.area.block < BIG_BLOCKS → functions_of k.words ≤ FUNCTIONS
+  pub functions : k.area.block < BIG_BLOCKS → functions_in_image k.words ≤ FUNCTIONS
 
 -- its block holds its image, apart from entry words
 abbrev pub ImageStands : (ℕ → ℕ) → KeptArea → Type 0
@@ -78,16 +78,16 @@ ImageStands word k =
 -- an entry word is 0 only where the generation does not trace the function
 abbrev pub EntriesStand : (ℕ → ℕ) → KeptArea → Published → Type 0
 EntriesStand word k p =
-    (function : ℕ) → IsTrue (has_function k function) → word (block_place k.area.block (entry_at function)) ≡ 0 → is_traced p k.area.serial function ≡ false
+    (function : ℕ) → IsTrue (has_function k function) → word (block_place k.area.block (image_entry_at function)) ≡ 0 → is_traced_function p k.area.serial function ≡ false
 
 -- its retire word tells whether it is retired
 abbrev pub RetireTells : (ℕ → ℕ) → KeptArea → ℕ → Published → Type 0
-RetireTells word k g p = tells (word (retire_place k.area.block)) g ≡ is_retired p k.area.serial
+RetireTells word k g p = tells (word (retire_place k.area.block)) g ≡ is_retired_area p k.area.serial
 
 -- the doom word of an instance that is not retired tells whether it is doomed
 abbrev pub DoomTells : (ℕ → ℕ) → KeptArea → ℕ → Published → Type 0
 DoomTells word k g p =
-    k.area.block < BIG_BLOCKS → is_retired p k.area.serial ≡ false → tells (word (doom_place k.area.block)) g ≡ is_doomed p k.area.serial
+    k.area.block < BIG_BLOCKS → is_retired_area p k.area.serial ≡ false → tells (word (doom_place k.area.block)) g ≡ is_doomed_area p k.area.serial
 
 -- what holds of a kept area under a generation
 pub record AreaStands (word : ℕ → ℕ) (k : KeptArea) (g : ℕ) (p : Published) : Type 0 where
@@ -138,7 +138,7 @@ pub record BlockInvariant (b : Blocks) (Counts : ℕ → Type 0) : Type 0 where
   -- trace decisions are those of the generation
   pub breakpoints_stand : EachCounted b Counts (λ g p. BreakpointsStand b.word p)
   -- keys hold what the generation has under them
-  pub terms_stand : EachCounted b Counts (λ g p. TermsStand (term_words b.word p.root) p)
+  pub terms_stand : EachCounted b Counts (λ g p. TermsStand (term_blocks_words b.word p.root) p)
   -- what the generation uses is not released
   pub used_kept : EachCounted b Counts (λ g p. UsedAreKept b.kept p)
   -- entry, retire and doom words tell of the generation

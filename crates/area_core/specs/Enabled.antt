@@ -17,8 +17,8 @@ use Rattle.area_core.specs.declared.event.AreaEvent.TheVariants.{StoreWord, Stor
 use Rattle.area_core.specs.declared.table.Published.{Published}
 use Rattle.area_core.specs.declared.table.KeptArea.{KeptArea}
 use Rattle.area_core.specs.declared.table.Table.{Table}
-use Rattle.area_core.specs.Map.{word_at, slot_place, block_place, entry_at, kind_at}
-use Rattle.area_core.specs.Generations.{has_function, names}
+use Rattle.area_core.specs.Map.{word_at, slot_place, block_place, image_entry_at, kind_at}
+use Rattle.area_core.specs.Generations.{has_function, anchor_names_area}
 use Rattle.area_core.specs.Terms.{TermsStand, terms_stand}
 use Rattle.area_core.specs.Blocks.{Among, IsAnchor, BlockInvariant}
 use Rattle.area_core.specs.Readers.{reads_in_block, readable_generations}
@@ -35,7 +35,7 @@ BlocksStand t = BlockInvariant (blocks_of t) (IsReadable t)
 -- no thread may read the word of a block: no readable generation does, and no slot names an area in the block
 pub record IsUnread (s : Table) (block at : ℕ) : Type 0 where
   pub under : (g : ℕ) (p : Published) → IsReadable s g → slice_get s.published g ≡ Some p → reads_in_block p block at ≡ false
-  pub unnamed : (k : KeptArea) (process anchor : ℕ) → Among s.kept k → k.area.block ≡ block → IsAnchor process anchor → names (word_at s.words (slot_place process anchor)) k.area.serial ≡ false
+  pub unnamed : (k : KeptArea) (process anchor : ℕ) → Among s.kept k → k.area.block ≡ block → IsAnchor process anchor → anchor_names_area (word_at s.words (slot_place process anchor)) k.area.serial ≡ false
 
 -- a word of a block may be stored exactly where no thread may read it and the invariant holds after it
 abbrev pub DecidesBlockStores : Type 0
@@ -58,7 +58,7 @@ DecidesDoomStores = (s : Table) (word value block : ℕ) → IsSound s → kind_
 -- ---- entry words
 
 -- the function is one of a kept instance, in its block
-pub record IsFunctionOf (kept : List KeptArea) (at : CodeRef) (k : KeptArea) : Type 0 where
+pub record IsFunctionOfBlock (kept : List KeptArea) (at : CodeRef) (k : KeptArea) : Type 0 where
   pub among : Among kept k
   pub serial : k.area.serial ≡ at.area.serial
   pub block : k.area.block ≡ at.area.block
@@ -66,11 +66,11 @@ pub record IsFunctionOf (kept : List KeptArea) (at : CodeRef) (k : KeptArea) : T
 
 -- the state after a store of an entry word
 abbrev pub with_entry : Table → CodeRef → Bool → Table
-with_entry s at on = with_word s (block_place at.area.block (entry_at at.function)) (entry_word on)
+with_entry s at on = with_word s (block_place at.area.block (image_entry_at at.function)) (entry_word on)
 
 -- an entry word may be stored exactly where it is that of a kept instance and the invariant holds after it
 abbrev pub DecidesEntryStores : Type 0
-DecidesEntryStores = (s : Table) (at : CodeRef) (on : Bool) → IsSound s → (after s (StoreEntry at on) ≡ Some (with_entry s at on)) ↔ (((k : KeptArea) × IsFunctionOf s.kept at k) × BlocksStand (with_entry s at on))
+DecidesEntryStores = (s : Table) (at : CodeRef) (on : Bool) → IsSound s → (after s (StoreEntry at on) ≡ Some (with_entry s at on)) ↔ (((k : KeptArea) × IsFunctionOfBlock s.kept at k) × BlocksStand (with_entry s at on))
 
 -- ---- slots
 

@@ -43,16 +43,16 @@ abbrev pub is_used : Published → ℕ → Bool
 is_used p serial = is_instance p serial || is_key_area p serial
 
 -- the area was dropped
-abbrev pub is_retired : Published → ℕ → Bool
-is_retired p serial = has_serial p.state.retired serial
+abbrev pub is_retired_area : Published → ℕ → Bool
+is_retired_area p serial = has_serial p.state.retired serial
 
 -- the instance is purged, so that processes that stand in it end
-abbrev pub is_doomed : Published → ℕ → Bool
-is_doomed p serial = has_serial p.state.doomed serial
+abbrev pub is_doomed_area : Published → ℕ → Bool
+is_doomed_area p serial = has_serial p.state.doomed serial
 
 -- calls of the function are traced
-abbrev pub is_traced : Published → ℕ → ℕ → Bool
-is_traced p serial function = list_any (λ f. (f.serial == serial) && (f.function == function)) p.state.traced
+abbrev pub is_traced_function : Published → ℕ → ℕ → Bool
+is_traced_function p serial function = list_any (λ f. (f.serial == serial) && (f.function == function)) p.state.traced
 
 -- the area of this serial has this block
 abbrev pub has_area : List AreaRef → ℕ → ℕ → Bool
@@ -80,12 +80,12 @@ is_kept kept serial = list_any (λ k. k.area.serial == serial) kept
 -- ---- images of instances
 
 -- how many functions the image of an instance has
-abbrev pub functions_of : List ℕ → ℕ
-functions_of words = unwrap_or (slice_get words 3) 0
+abbrev pub functions_in_image : List ℕ → ℕ
+functions_in_image words = unwrap_or (slice_get words 3) 0
 
 -- the area is an instance, by its block, and has this function
 abbrev pub has_function : KeptArea → ℕ → Bool
-has_function k function = nat_lt k.area.block BIG_BLOCKS && nat_lt function (functions_of k.words)
+has_function k function = nat_lt k.area.block BIG_BLOCKS && nat_lt function (functions_in_image k.words)
 
 -- this word of the area is the entry word of a function
 abbrev pub is_entry_word : KeptArea → ℕ → Bool
@@ -105,7 +105,7 @@ is_code_word p (Some (Some to)) word = list_any (λ a. leads_to to a word) p.are
 
 -- the word of a breakpoint index that stands for whether a function is traced
 abbrev pub traced_word : Published → ℕ → ℕ → ℕ
-traced_word p serial function = if is_traced p serial function then 1 else 0
+traced_word p serial function = if is_traced_function p serial function then 1 else 0
 
 -- the word of a term table that leads to an area
 abbrev pub is_area_word : AreaRef → ℕ → Bool
@@ -121,9 +121,9 @@ abbrev pub tells : ℕ → ℕ → Bool
 tells word g = not (word == 0) && nat_le word g
 
 -- both are so, or neither
-abbrev pub agrees : Bool → Bool → Bool
-agrees true other = other
-agrees false other = not other
+abbrev pub are_alike : Bool → Bool → Bool
+are_alike true other = other
+are_alike false other = not other
 
 -- ---- anchors
 
@@ -136,8 +136,8 @@ abbrev pub is_naming : ℕ → Bool
 is_naming word = not (word % 4 == 0)
 
 -- an anchor names this area
-abbrev pub names : ℕ → ℕ → Bool
-names word serial = is_naming word && (serial_in word == serial)
+abbrev pub anchor_names_area : ℕ → ℕ → Bool
+anchor_names_area word serial = is_naming word && (serial_in word == serial)
 
 -- an anchor names this area for a frame
 abbrev pub names_frame : ℕ → ℕ → Bool

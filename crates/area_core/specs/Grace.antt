@@ -11,8 +11,8 @@ use Rattle.area_core.specs.declared.event.AreaEvent.TheVariants.{StoreWord, Stor
 use Rattle.area_core.specs.declared.table.Published.{Published}
 use Rattle.area_core.specs.declared.table.KeptArea.{KeptArea}
 use Rattle.area_core.specs.declared.table.Table.{Table}
-use Rattle.area_core.specs.Map.{word_at, slot_place, retire_place, block_place, entry_at, kind_at}
-use Rattle.area_core.specs.Generations.{is_used, names}
+use Rattle.area_core.specs.Map.{word_at, slot_place, retire_place, block_place, image_entry_at, kind_at}
+use Rattle.area_core.specs.Generations.{is_used, anchor_names_area}
 use Rattle.area_core.specs.Blocks.{Among, IsAnchor}
 use Rattle.area_core.specs.Readers.{MayRead, reads_in_block}
 use Rattle.area_core.specs.Stores.{with_word, is_retired_in}
@@ -23,7 +23,7 @@ use Rattle.area_core.specs.Enabled.{with_retire}
 
 -- the event stores this word as the entry word of a function
 abbrev pub IsEntryStore : AreaEvent → ℕ → Type 0
-IsEntryStore event word = (at : CodeRef) × (on : Bool) × (event ≡ StoreEntry at on) × (word ≡ block_place at.area.block (entry_at at.function))
+IsEntryStore event word = (at : CodeRef) × (on : Bool) × (event ≡ StoreEntry at on) × (word ≡ block_place at.area.block (image_entry_at at.function))
 
 -- no event changes a word of a block that a seat may read, unless it stores an entry word
 abbrev pub KeepsReadWords : Type 0
@@ -45,7 +45,7 @@ FreesWords = (s : Table) (n word value block at : ℕ) → IsSound s → IsReach
 
 -- no anchor of a slot names the area
 abbrev pub IsUnnamed : Table → ℕ → Type 0
-IsUnnamed s serial = (process anchor : ℕ) → IsAnchor process anchor → names (word_at s.words (slot_place process anchor)) serial ≡ false
+IsUnnamed s serial = (process anchor : ℕ) → IsAnchor process anchor → anchor_names_area (word_at s.words (slot_place process anchor)) serial ≡ false
 
 -- an area that the newest generation has retired, that none from n on uses and no slot names, may then be released
 abbrev pub FreesAreas : Type 0

@@ -51,8 +51,8 @@ abbrev pub term_place : ℕ → ℕ → ℕ
 term_place term at = block_place (TERMS_START + term) at
 
 -- where the image of an instance has the entry word of a function
-abbrev pub entry_at : ℕ → ℕ
-entry_at function = function * 4 + 6
+abbrev pub image_entry_at : ℕ → ℕ
+image_entry_at function = function * 4 + 6
 
 -- what a word of the blocks is for
 abbrev pub kind_in_blocks : ℕ → WordKind

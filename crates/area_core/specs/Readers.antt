@@ -21,7 +21,7 @@ use Rattle.area_core.specs.declared.event.SeatName.TheVariants as seats
 use Rattle.area_core.specs.declared.table.Published.{Published}
 use Rattle.area_core.specs.declared.table.Table.{Table}
 use Rattle.area_core.specs.Map.{word_at, anchor_place, kind_at}
-use Rattle.area_core.specs.Generations.{is_instance, is_reached, names}
+use Rattle.area_core.specs.Generations.{is_instance, is_reached, anchor_names_area}
 
 -- ---- generations
 
@@ -101,27 +101,27 @@ reads_word Nowhere p = false
 -- ---- words of the areas that slots name
 
 -- the slots of all processes, or those of a member's processes, which are dealt out in turn
-abbrev pub is_of : Slots → ℕ → Bool
-is_of All process = true
-is_of (OfMember member members) process = not (members == 0) && (process % members == member)
+abbrev pub is_slot_of : Slots → ℕ → Bool
+is_slot_of All process = true
+is_slot_of (OfMember member members) process = not (members == 0) && (process % members == member)
 
 -- one of the first so many anchors of these slots names the area
 unfoldable pub is_named_before : Slots → List ℕ → ℕ → ℕ → Bool
 is_named_before slots words serial zero = false
 is_named_before slots words serial (suc n) =
-    is_named_before slots words serial n || (is_of slots (n / ANCHORS) && names (word_at words (anchor_place n)) serial)
+    is_named_before slots words serial n || (is_slot_of slots (n / ANCHORS) && anchor_names_area (word_at words (anchor_place n)) serial)
 
 -- how many anchors all slots have
 abbrev pub all_anchors : ℕ
 all_anchors = PROCESSES * ANCHORS
 
 -- an anchor of these slots names the area
-abbrev pub is_named : Slots → List ℕ → ℕ → Bool
-is_named slots words serial = is_named_before slots words serial all_anchors
+abbrev pub is_named_area : Slots → List ℕ → ℕ → Bool
+is_named_area slots words serial = is_named_before slots words serial all_anchors
 
 -- an anchor of these slots names the kept area in this block
 abbrev pub is_block_named : Slots → Table → ℕ → Bool
-is_block_named slots s block = list_any (λ k. (k.area.block == block) && is_named slots s.words k.area.serial) s.kept
+is_block_named slots s block = list_any (λ k. (k.area.block == block) && is_named_area slots s.words k.area.serial) s.kept
 
 -- the word is one of an area that these slots name
 abbrev pub slots_read : Slots → Table → WordKind → Bool

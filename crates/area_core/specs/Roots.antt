@@ -10,10 +10,10 @@ use Rattle.area_core.specs.declared.map.TheConstants.{BLOCKS, BIG_BLOCKS, BIG_WO
 use Rattle.area_core.specs.declared.table.Root.{Root}
 use Rattle.area_core.specs.declared.table.Published.{Published}
 use Rattle.area_core.specs.declared.table.KeptArea.{KeptArea}
-use Rattle.area_core.specs.Map.{word_at, block_place, breakpoint_place, entry_at, retire_place, doom_place, room_of}
-use Rattle.area_core.specs.Generations.{is_instance, is_retired, is_doomed, is_traced, is_kept, is_kept_as, functions_of, has_function, is_entry_word, is_code_word, traced_word, tells, agrees}
+use Rattle.area_core.specs.Map.{word_at, block_place, breakpoint_place, image_entry_at, retire_place, doom_place, room_of}
+use Rattle.area_core.specs.Generations.{is_instance, is_retired_area, is_doomed_area, is_traced_function, is_kept, is_kept_as, functions_in_image, has_function, is_entry_word, is_code_word, traced_word, tells, are_alike}
 use Rattle.area_core.specs.Terms.{terms_stand}
-use Rattle.area_core.specs.Blocks.{term_words}
+use Rattle.area_core.specs.Blocks.{term_blocks_words}
 use Rattle.area_core.specs.Readers.{holds_of_each}
 use Rattle.area_core.specs.Stores.{is_image_word}
 
@@ -50,19 +50,19 @@ breakpoints_stand words p = list_all (λ a. not (is_instance p a.serial) || trac
 -- the blocks of the root stand for the generation
 abbrev pub blocks_stand : List ℕ → Published → Bool
 blocks_stand words p =
-    code_stands words p EXPORT_ENTRIES && breakpoints_stand words p && terms_stand (term_words (word_at words) p.root) p
+    code_stands words p EXPORT_ENTRIES && breakpoints_stand words p && terms_stand (term_blocks_words (word_at words) p.root) p
 
 -- ---- its areas
 
 -- the image of this serial, if there is one
-abbrev pub image_of : List AreaWords → ℕ → Option (List ℕ)
-image_of [] serial = None
-image_of (a ∷ areas) serial = if a.serial == serial then Some a.words else image_of areas serial
+abbrev pub serial_image : List AreaWords → ℕ → Option (List ℕ)
+serial_image [] serial = None
+serial_image (a ∷ areas) serial = if a.serial == serial then Some a.words else serial_image areas serial
 
 -- an area that is not kept yet is kept from now on, with its image
 abbrev pub fresh_area : List KeptArea → List AreaWords → AreaRef → Option KeptArea
 fresh_area kept areas a =
-    if is_kept kept a.serial then None else option_map (λ words. record { area = a; words = words }) (image_of areas a.serial)
+    if is_kept kept a.serial then None else option_map (λ words. record { area = a; words = words }) (serial_image areas a.serial)
 
 -- the same as a list of at most one
 abbrev pub fresh_in : List KeptArea → List AreaWords → AreaRef → List KeptArea
@@ -75,7 +75,7 @@ fresh_areas kept p = flat_map (fresh_in kept p.state.areas) p.areas
 -- the area has a block with room for it
 abbrev pub fits_block : KeptArea → Bool
 fits_block k =
-    nat_le AREAS_START k.area.block && nat_lt k.area.block BLOCKS && nat_le (length k.words) (room_of k.area.block) && (not (nat_lt k.area.block BIG_BLOCKS) || nat_le (functions_of k.words) FUNCTIONS)
+    nat_le AREAS_START k.area.block && nat_lt k.area.block BLOCKS && nat_le (length k.words) (room_of k.area.block) && (not (nat_lt k.area.block BIG_BLOCKS) || nat_le (functions_in_image k.words) FUNCTIONS)
 
 -- the areas differ in serial and block
 abbrev pub is_apart : KeptArea → KeptArea → Bool
@@ -96,16 +96,16 @@ image_stands words k (suc n) =
 unfoldable pub entries_stand : List ℕ → KeptArea → Published → ℕ → Bool
 entries_stand words k p zero = true
 entries_stand words k p (suc n) =
-    entries_stand words k p n && (not (has_function k n) || not (word_at words (block_place k.area.block (entry_at n)) == 0) || not (is_traced p k.area.serial n))
+    entries_stand words k p n && (not (has_function k n) || not (word_at words (block_place k.area.block (image_entry_at n)) == 0) || not (is_traced_function p k.area.serial n))
 
 -- the retire word tells whether the area is retired
 abbrev pub retire_tells : List ℕ → KeptArea → ℕ → Published → Bool
-retire_tells words k g p = agrees (tells (word_at words (retire_place k.area.block)) g) (is_retired p k.area.serial)
+retire_tells words k g p = are_alike (tells (word_at words (retire_place k.area.block)) g) (is_retired_area p k.area.serial)
 
 -- the doom word of an instance that is not retired tells whether it is doomed
 abbrev pub doom_tells : List ℕ → KeptArea → ℕ → Published → Bool
 doom_tells words k g p =
-    not (nat_lt k.area.block BIG_BLOCKS) || is_retired p k.area.serial || agrees (tells (word_at words (doom_place k.area.block)) g) (is_doomed p k.area.serial)
+    not (nat_lt k.area.block BIG_BLOCKS) || is_retired_area p k.area.serial || are_alike (tells (word_at words (doom_place k.area.block)) g) (is_doomed_area p k.area.serial)
 
 -- entry, retire and doom words tell of the generation
 abbrev pub area_stands : List ℕ → KeptArea → ℕ → Published → Bool

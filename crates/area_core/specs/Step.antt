@@ -12,7 +12,7 @@ use Rattle.prgr_core.specs.declared.event.PrgrEvent.{PrgrEvent}
 use Rattle.prgr_core.specs.declared.event.PrgrEvent.TheVariants as prgr
 use Rattle.prgr_core.specs.Members.{is_value}
 use Rattle.prgr_core.specs.Machine.{machine_of, Readable}
-use Rattle.prgr_core.specs.Step.{after as progress_after, opening as opening_progress, with_pair, IsSound as IsProgressSound}
+use Rattle.prgr_core.specs.Step.{after as progress_after, progress_opening as opening_progress, with_pair, IsSound as IsProgressSound}
 use Rattle.term_core.specs.declared.area.AreaRef.{AreaRef}
 use Rattle.term_core.specs.declared.area.CodeRef.{CodeRef}
 use Rattle.term_core.specs.declared.generation.Generation.{Generation}
@@ -27,9 +27,9 @@ use Rattle.area_core.specs.declared.event.AreaEvent.TheVariants.{LoadCounter, Lo
 use Rattle.area_core.specs.declared.table.Published.{Published}
 use Rattle.area_core.specs.declared.table.KeptArea.{KeptArea}
 use Rattle.area_core.specs.declared.table.Table.{Table}
-use Rattle.area_core.specs.Map.{word_at, opening_words, slot_place, block_place, entry_at, kind_at}
+use Rattle.area_core.specs.Map.{word_at, opening_words, slot_place, block_place, image_entry_at, kind_at}
 use Rattle.area_core.specs.Blocks.{Blocks, BlockInvariant}
-use Rattle.area_core.specs.Readers.{is_of, held_generations, readable_generations, may_read, MayRead}
+use Rattle.area_core.specs.Readers.{is_slot_of, held_generations, readable_generations, may_read, MayRead}
 use Rattle.area_core.specs.Stores.{with_word, holds_in_block, may_store_in_block, may_be_retire, kept_after, may_be_doom, may_store_entry, entry_word, may_store_slot}
 use Rattle.area_core.specs.Roots.{fresh_areas, may_publish}
 
@@ -106,12 +106,12 @@ word_stored s word value Nowhere = None
 -- a store of an entry word
 abbrev pub entry_stored : Table → CodeRef → Bool → Option Table
 entry_stored s at on =
-    if_enabled (may_store_entry s (readable_generations s.progress) at on) (with_word s (block_place at.area.block (entry_at at.function)) (entry_word on))
+    if_enabled (may_store_entry s (readable_generations s.progress) at on) (with_word s (block_place at.area.block (image_entry_at at.function)) (entry_word on))
 
 -- the slot is one of the member's, whose word is a value, and has this place
 abbrev pub may_write_slot : Table → Member → ℕ → ℕ → ℕ → Bool
 may_write_slot s member k process place =
-    is_value member.word && nat_lt process PROCESSES && is_of (OfMember k (length s.progress.members)) process && nat_le place ANCHORS
+    is_value member.word && nat_lt process PROCESSES && is_slot_of (OfMember k (length s.progress.members)) process && nat_le place ANCHORS
 
 -- a store of member k into a slot
 abbrev pub slot_stored_by : Table → ℕ → ℕ → ℕ → ℕ → Member → Option Table

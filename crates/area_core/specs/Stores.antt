@@ -9,8 +9,8 @@ use Rattle.area_core.specs.declared.table.Published.{Published}
 use Rattle.area_core.specs.declared.table.KeptArea.{KeptArea}
 use Rattle.area_core.specs.declared.table.Table.{Table}
 use Rattle.area_core.specs.Map.{word_at, slot_place}
-use Rattle.area_core.specs.Generations.{is_current, is_key_area, is_used, is_retired, is_doomed, is_traced, has_function, is_entry_word, tells, agrees, serial_in, names_frame, names_literal}
-use Rattle.area_core.specs.Readers.{holds_of_each, is_named, is_read}
+use Rattle.area_core.specs.Generations.{is_current, is_key_area, is_used, is_retired_area, is_doomed_area, is_traced_function, has_function, is_entry_word, tells, are_alike, serial_in, names_frame, names_literal}
+use Rattle.area_core.specs.Readers.{holds_of_each, is_named_area, is_read}
 
 -- the table with this word at a place
 abbrev pub with_word : Table → ℕ → ℕ → Table
@@ -24,7 +24,7 @@ holds_in_block kept block test = list_all (λ k. not (k.area.block == block) || 
 
 -- none of these generations traces the function
 abbrev pub is_untraced : Table → List ℕ → ℕ → ℕ → Bool
-is_untraced s generations serial function = holds_of_each s.published generations (λ g p. not (is_traced p serial function))
+is_untraced s generations serial function = holds_of_each s.published generations (λ g p. not (is_traced_function p serial function))
 
 -- the entry word of a function may become this: 0 only where no generation traces the function
 abbrev pub may_be_entry : Table → List ℕ → ℕ → ℕ → ℕ → Bool
@@ -50,7 +50,7 @@ may_store_in_block s generations block at value =
 -- the area is retired in what was published
 abbrev pub is_retired_in : Option Published → ℕ → Bool
 is_retired_in None serial = false
-is_retired_in (Some p) serial = is_retired p serial
+is_retired_in (Some p) serial = is_retired_area p serial
 
 -- the store of 0 into the retire word of an area that is retired in what was published releases it
 abbrev pub is_released_at : Option Published → ℕ → KeptArea → Bool
@@ -63,12 +63,12 @@ is_released_by s value k = is_released_at (slice_get s.published s.progress.gene
 -- an area may be released where no slot names it and no generation uses it
 abbrev pub may_release : Table → List ℕ → KeptArea → Bool
 may_release s generations k =
-    not (is_named All s.words k.area.serial) && holds_of_each s.published generations (λ g p. not (is_used p k.area.serial))
+    not (is_named_area All s.words k.area.serial) && holds_of_each s.published generations (λ g p. not (is_used p k.area.serial))
 
 -- the retire word of a kept area may become this value
 abbrev pub may_be_retire : Table → List ℕ → ℕ → KeptArea → Bool
 may_be_retire s generations value k =
-    if is_released_by s value k then may_release s generations k else holds_of_each s.published generations (λ g p. agrees (tells value g) (is_retired p k.area.serial))
+    if is_released_by s value k then may_release s generations k else holds_of_each s.published generations (λ g p. are_alike (tells value g) (is_retired_area p k.area.serial))
 
 -- the areas that are kept after a store of this value into the retire word of a block
 abbrev pub kept_after : Table → ℕ → ℕ → List KeptArea
@@ -77,7 +77,7 @@ kept_after s block value = filter (λ k. not ((k.area.block == block) && is_rele
 -- the doom word of a kept area may become this value
 abbrev pub may_be_doom : Table → List ℕ → ℕ → KeptArea → Bool
 may_be_doom s generations value k =
-    holds_of_each s.published generations (λ g p. is_retired p k.area.serial || agrees (tells value g) (is_doomed p k.area.serial))
+    holds_of_each s.published generations (λ g p. is_retired_area p k.area.serial || are_alike (tells value g) (is_doomed_area p k.area.serial))
 
 -- ---- entry words
 

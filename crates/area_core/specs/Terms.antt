@@ -13,8 +13,8 @@ abbrev pub key_in : (ℕ → ℕ) → ℕ → ℕ
 key_in block bucket = block (bucket * 2)
 
 -- the value in a bucket
-abbrev pub value_in : (ℕ → ℕ) → ℕ → ℕ
-value_in block bucket = block (bucket * 2 + 1)
+abbrev pub bucket_value : (ℕ → ℕ) → ℕ → ℕ
+bucket_value block bucket = block (bucket * 2 + 1)
 
 -- what is known after a look at one more bucket: nothing yet, that the key is not there, or its bucket
 abbrev pub look_at : (ℕ → ℕ) → ℕ → ℕ → Option (Option ℕ) → Option (Option ℕ)
@@ -28,17 +28,17 @@ looked block key zero = None
 looked block key (suc n) = look_at block key ((key % BUCKETS + n) % BUCKETS) (looked block key n)
 
 -- what is found, if anything is known
-abbrev pub outcome : Option (Option ℕ) → Option ℕ
-outcome None = None
-outcome (Some known) = known
+abbrev pub found_outcome : Option (Option ℕ) → Option ℕ
+found_outcome None = None
+found_outcome (Some known) = known
 
 -- the bucket in which a key is found
 abbrev pub bucket_of : (ℕ → ℕ) → ℕ → Option ℕ
-bucket_of block key = outcome (looked block key BUCKETS)
+bucket_of block key = found_outcome (looked block key BUCKETS)
 
 -- what is found under a key
 abbrev pub found_in : (ℕ → ℕ) → ℕ → Option ℕ
-found_in block key = option_map (value_in block) (bucket_of block key)
+found_in block key = option_map (bucket_value block) (bucket_of block key)
 
 -- the generation has this key with what the word stands for
 abbrev pub is_word_of : Published → ℕ → ℕ → KeyTerm → Bool

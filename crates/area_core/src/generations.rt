@@ -2,7 +2,7 @@
 
 ghost use Rattle.std.specs.Prelude.{◌≡◌, ◌==◌, ◌&&◌};
 ghost use Rattle.std.specs.List.{list_any};
-ghost use Rattle.area_core.specs.Generations.{agrees, functions_of, has_area, has_function, has_image, has_serial, holds_area, is_area_word, is_code_word, is_current, is_doomed, is_entry_word, is_instance, is_kept, is_kept_as, is_key_area, is_reached, is_retired, is_term_word, is_traced, is_used, leads_to, names, names_frame, names_literal, same_words, serial_in, tells, traced_word};
+ghost use Rattle.area_core.specs.Generations.{are_alike, functions_in_image, has_area, has_function, has_image, has_serial, holds_area, is_area_word, is_code_word, is_current, is_doomed_area, is_entry_word, is_instance, is_kept, is_kept_as, is_key_area, is_reached, is_retired_area, is_term_word, is_traced_function, is_used, leads_to, anchor_names_area, names_frame, names_literal, same_words, serial_in, tells, traced_word};
 
 use crate::map::BIG_BLOCKS;
 use crate::table::{KeptArea, Published};
@@ -57,21 +57,21 @@ impl Published {
 
     /// Whether the area was dropped.
     pub fn is_retired(&self, serial: u64) -> bool
-        ensures { result ≡ is_retired self.now serial }
+        ensures { result ≡ is_retired_area self.now serial }
     {
         has_serial(self.state.retired.as_slice(), serial)
     }
 
     /// Whether the instance is purged.
     pub fn is_doomed(&self, serial: u64) -> bool
-        ensures { result ≡ is_doomed self.now serial }
+        ensures { result ≡ is_doomed_area self.now serial }
     {
         has_serial(self.state.doomed.as_slice(), serial)
     }
 
     /// Whether calls of the function are traced.
     pub fn is_traced(&self, serial: u64, function: u32) -> bool
-        ensures { result ≡ is_traced self.now serial function }
+        ensures { result ≡ is_traced_function self.now serial function }
     {
         self.state.traced.as_slice().iter().any(|traced| traced.serial == serial
             && traced.function == function)
@@ -149,7 +149,7 @@ pub fn is_kept(kept: &[KeptArea], serial: u64) -> bool
 
 /// How many functions the image of an instance has.
 pub fn functions_of(words: &[u64]) -> u64
-    ensures { result ≡ functions_of words.now }
+    ensures { result ≡ functions_in_image words.now }
 {
     words.get(3).copied().unwrap_or(0)
 }
@@ -225,7 +225,7 @@ pub fn tells(word: u64, generation: u64) -> bool
 
 /// Whether both are so, or neither.
 pub fn agrees(one: bool, other: bool) -> bool
-    ensures { result ≡ agrees one other }
+    ensures { result ≡ are_alike one other }
 {
     if one { other } else { !other }
 }
@@ -239,7 +239,7 @@ pub fn serial_in(word: u64) -> u64
 
 /// Whether an anchor names this area.
 pub fn names(word: u64, serial: u64) -> bool
-    ensures { result ≡ names word serial }
+    ensures { result ≡ anchor_names_area word serial }
 {
     word % 4 != 0 && serial_in(word) == serial
 }

@@ -1,7 +1,7 @@
 //! Where each word of the shared table stands.
 
 ghost use Rattle.std.specs.Prelude.{◌≡◌, ◌<◌, ◌≤◌, ◌^◌};
-ghost use Rattle.area_core.specs.Map.{anchor_place, block_place, breakpoint_at, doom_place, entry_at, kind_at, retire_place, room_of, slot_place};
+ghost use Rattle.area_core.specs.Map.{anchor_place, block_place, breakpoint_at, doom_place, image_entry_at, kind_at, retire_place, room_of, slot_place};
 
 /// How many words the shared table has.
 pub const TABLE_WORDS: u32 = 83413;
@@ -178,7 +178,7 @@ pub fn breakpoint_at(block: u32, function: u32) -> u64
 
 /// Where the image of an instance has the entry word of a function.
 pub fn entry_at(function: u32) -> u64
-    ensures value { result ≡ entry_at function }
+    ensures value { result ≡ image_entry_at function }
     ensures small { result < 2 ^ 48 }
 {
     u64::from(function) * 4 + 6

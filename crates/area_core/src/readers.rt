@@ -3,7 +3,7 @@
 ghost use Rattle.std.specs.Prelude.{◌≡◌, ◌+◌, ◌/◌, slice_get, OnOk, IfOk, ◌++◌};
 ghost use Rattle.std.specs.List.{flat_map, list_any};
 ghost use Rattle.std.specs.Option.{option_to_list};
-ghost use Rattle.area_core.specs.Readers.{in_member, in_watcher, has_root, held_by, held_by_member, held_by_watcher, held_generations, has_instance_in, is_block_named, is_named, is_named_before, is_of, is_read, is_read_under, may_read, own_slots_read, reaches_block, readable_generations, reads_in_block, reads_word, slots_read};
+ghost use Rattle.area_core.specs.Readers.{in_member, in_watcher, has_root, held_by, held_by_member, held_by_watcher, held_generations, has_instance_in, is_block_named, is_named_area, is_named_before, is_slot_of, is_read, is_read_under, may_read, own_slots_read, reaches_block, readable_generations, reads_in_block, reads_word, slots_read};
 
 use crate::event::SeatName;
 use crate::generations::names;
@@ -27,7 +27,7 @@ pub enum Slots {
 impl Slots {
     /// Whether the slot of the process is one of these.
     pub fn has(self, process: u32) -> bool
-        ensures { result ≡ is_of self process }
+        ensures { result ≡ is_slot_of self process }
     {
         match self {
             Slots::All => true,
@@ -193,7 +193,7 @@ fn is_named_before(slots: Slots, words: &WordTable, serial: u64, count: u32) -> 
 
 /// Whether an anchor of these slots names the area.
 pub fn is_named(slots: Slots, words: &WordTable, serial: u64) -> bool
-    ensures { result ≡ is_named slots words.now serial }
+    ensures { result ≡ is_named_area slots words.now serial }
 {
     is_named_before(slots, words, serial, PROCESSES * ANCHORS)
 }

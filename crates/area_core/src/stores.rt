@@ -3,7 +3,7 @@
 ghost use Rattle.std.specs.Prelude.{◌≡◌, ◌||◌, not, slice_get};
 ghost use Rattle.std.specs.List.{list_any};
 ghost use Rattle.area_core.specs.Readers.{holds_at, holds_of_each};
-ghost use Rattle.area_core.specs.Generations.{is_doomed, is_retired, is_traced, is_used, tells, agrees};
+ghost use Rattle.area_core.specs.Generations.{is_doomed_area, is_retired_area, is_traced_function, is_used, tells, are_alike};
 ghost use Rattle.area_core.specs.Stores.{entry_word, holds_in_block, kept_after, is_framed, is_function_of, is_image_word, is_released_by, is_untraced, may_be_doom, may_be_entry, may_be_in_image, may_be_retire, may_name_frame, may_name_literal, may_release, may_store_anchor, may_store_entry, may_store_in_block, may_store_slot, stands_elsewhere};
 
 use crate::generations::{agrees, names_frame, names_literal, serial_in, tells};
@@ -95,7 +95,7 @@ impl Table {
 
     /// Whether a retire word of this value tells of the area what each of these generations says.
     fn tells_retired(&self, generations: &[u64], value: u64, area: &KeptArea) -> bool
-        ensures { result ≡ holds_of_each self.now.published generations.now (λ g p. agrees (tells value g) (is_retired p area.now.area.serial)) }
+        ensures { result ≡ holds_of_each self.now.published generations.now (λ g p. are_alike (tells value g) (is_retired_area p area.now.area.serial)) }
     {
         let published = self.published.as_slice();
         let serial = area.area.serial;
@@ -165,7 +165,7 @@ impl Table {
 
 /// Whether the generation does not trace the function.
 fn leaves_untraced(published: &[Published], generation: u64, serial: u64, function: u32) -> bool
-    ensures { result ≡ holds_at published.now (λ g p. not (is_traced p serial function)) generation }
+    ensures { result ≡ holds_at published.now (λ g p. not (is_traced_function p serial function)) generation }
 {
     match published.get(generation as usize) {
         None => true,
@@ -185,7 +185,7 @@ fn leaves_unused(published: &[Published], generation: u64, serial: u64) -> bool
 
 /// Whether a retire word of this value tells of the area what the generation says.
 fn tells_retired(published: &[Published], generation: u64, value: u64, serial: u64) -> bool
-    ensures { result ≡ holds_at published.now (λ g p. agrees (tells value g) (is_retired p serial)) generation }
+    ensures { result ≡ holds_at published.now (λ g p. are_alike (tells value g) (is_retired_area p serial)) generation }
 {
     match published.get(generation as usize) {
         None => true,
@@ -195,7 +195,7 @@ fn tells_retired(published: &[Published], generation: u64, value: u64, serial: u
 
 /// Whether a doom word of this value tells of the area what the generation says.
 fn tells_doomed(published: &[Published], generation: u64, value: u64, serial: u64) -> bool
-    ensures { result ≡ holds_at published.now (λ g p. is_retired p serial || agrees (tells value g) (is_doomed p serial)) generation }
+    ensures { result ≡ holds_at published.now (λ g p. is_retired_area p serial || are_alike (tells value g) (is_doomed_area p serial)) generation }
 {
     match published.get(generation as usize) {
         None => true,

@@ -4,8 +4,8 @@ ghost use Rattle.std.specs.Prelude.{◌≡◌, ◌≤◌, ◌<◌, ◌+◌, ◌^
 ghost use Rattle.std.specs.Option.{IfSome, option_map};
 ghost use Rattle.area_core.specs.declared.map.TheConstants.{BUCKETS as ALL_BUCKETS};
 ghost use Rattle.area_core.specs.Map.{word_at};
-ghost use Rattle.area_core.specs.Blocks.{term_words};
-ghost use Rattle.area_core.specs.Terms.{are_buckets_known, are_found, look_at, looked, bucket_of, found_in, holds_one_of, is_bucket, is_bucket_known, is_found, terms_stand, value_in};
+ghost use Rattle.area_core.specs.Blocks.{term_blocks_words};
+ghost use Rattle.area_core.specs.Terms.{are_buckets_known, are_found, look_at, looked, bucket_of, found_in, holds_one_of, is_bucket, is_bucket_known, is_found, terms_stand, bucket_value};
 
 use crate::generations::is_term_word;
 use crate::map::{BUCKETS, TERMS_START, block_place};
@@ -15,7 +15,7 @@ use term_core::KeyTerm;
 /// The word at a place of the term table that the root names.
 fn term_word(words: &WordTable, root: Root, at: u64) -> u64
     requires { at < 2 ^ 48 }
-    ensures { result ≡ term_words (word_at words.now) root at }
+    ensures { result ≡ term_blocks_words (word_at words.now) root at }
 {
     words.get(block_place(u64::from(TERMS_START) + u64::from(root.term), at))
 }
@@ -30,7 +30,7 @@ fn look_at(
 ) -> Option<Option<u64>>
     requires key { key + 1 < 2 ^ 64 }
     requires bucket { bucket < ALL_BUCKETS }
-    ensures { result ≡ look_at (term_words (word_at words.now) root) key bucket known }
+    ensures { result ≡ look_at (term_blocks_words (word_at words.now) root) key bucket known }
 {
     match known {
         Some(known) => Some(known),
@@ -52,7 +52,7 @@ fn look_at(
 #[tactic(auto, using(crate::proofs::Counted::looked_none, crate::proofs::Counted::looked_next))]
 fn looked(words: &WordTable, root: Root, key: u64, count: u32) -> Option<Option<u64>>
     requires { key + 1 < 2 ^ 64 }
-    ensures { result ≡ looked (term_words (word_at words.now) root) key count }
+    ensures { result ≡ looked (term_blocks_words (word_at words.now) root) key count }
 {
     let first = key % u64::from(BUCKETS);
     let mut known = None;
@@ -69,7 +69,7 @@ fn looked(words: &WordTable, root: Root, key: u64, count: u32) -> Option<Option<
 /// The bucket in which a key is found.
 fn bucket_of(words: &WordTable, root: Root, key: u64) -> Option<u64>
     requires { key + 1 < 2 ^ 64 }
-    ensures found { result ≡ bucket_of (term_words (word_at words.now) root) key }
+    ensures found { result ≡ bucket_of (term_blocks_words (word_at words.now) root) key }
     ensures within { IfSome result (λ bucket. bucket < ALL_BUCKETS) }
 {
     match looked(words, root, key, BUCKETS) {
@@ -81,7 +81,7 @@ fn bucket_of(words: &WordTable, root: Root, key: u64) -> Option<u64>
 /// Whether a key is found with what it holds, if it is found in this bucket.
 fn is_found(words: &WordTable, published: &Published, key: &KeyTerm, bucket: Option<u64>) -> bool
     requires { IfSome bucket (λ bucket. bucket < ALL_BUCKETS) }
-    ensures { result ≡ is_found published.now key.now (option_map (value_in (term_words (word_at words.now) published.now.root)) bucket) }
+    ensures { result ≡ is_found published.now key.now (option_map (bucket_value (term_blocks_words (word_at words.now) published.now.root)) bucket) }
 {
     match bucket {
         None => false,
@@ -120,9 +120,9 @@ fn search_key(
     marks: &mut [bool; BUCKETS as usize],
 ) -> bool
     requires { length marks.old ≡ ALL_BUCKETS }
-    ensures found { result ≡ is_found published.now key.now (found_in (term_words (word_at words.now) published.now.root) key.now.key.0) }
+    ensures found { result ≡ is_found published.now key.now (found_in (term_blocks_words (word_at words.now) published.now.root) key.now.key.0) }
     ensures length { length marks.new ≡ ALL_BUCKETS }
-    ensures marked { (number : ℕ) → number < ALL_BUCKETS → get_or marks.new number false ≡ (get_or marks.old number false || is_bucket number (bucket_of (term_words (word_at words.now) published.now.root) key.now.key.0)) }
+    ensures marked { (number : ℕ) → number < ALL_BUCKETS → get_or marks.new number false ≡ (get_or marks.old number false || is_bucket number (bucket_of (term_blocks_words (word_at words.now) published.now.root) key.now.key.0)) }
 {
     let bucket = bucket_of(words, published.root, u64::from(key.key.0));
     mark(marks, bucket);
@@ -139,9 +139,9 @@ struct KeySearch {
 
 /// Searches for each of the keys.
 fn search_keys(words: &WordTable, published: &Published, keys: &[KeyTerm]) -> KeySearch
-    ensures found { result.are_found ≡ are_found (term_words (word_at words.now) published.now.root) published.now keys.now }
+    ensures found { result.are_found ≡ are_found (term_blocks_words (word_at words.now) published.now.root) published.now keys.now }
     ensures length { length result.marks ≡ ALL_BUCKETS }
-    ensures marked { (number : ℕ) → number < ALL_BUCKETS → get_or result.marks number false ≡ holds_one_of (term_words (word_at words.now) published.now.root) keys.now number }
+    ensures marked { (number : ℕ) → number < ALL_BUCKETS → get_or result.marks number false ≡ holds_one_of (term_blocks_words (word_at words.now) published.now.root) keys.now number }
 {
     let mut are_found = true;
     let mut marks = no_marks();
@@ -163,8 +163,8 @@ fn is_bucket_known(
 ) -> bool
     requires bucket { bucket < ALL_BUCKETS }
     requires length { length marks.now ≡ ALL_BUCKETS }
-    requires marked { (number : ℕ) → number < ALL_BUCKETS → get_or marks.now number false ≡ holds_one_of (term_words (word_at words.now) root) keys.now number }
-    ensures { result ≡ is_bucket_known (term_words (word_at words.now) root) keys.now bucket }
+    requires marked { (number : ℕ) → number < ALL_BUCKETS → get_or marks.now number false ≡ holds_one_of (term_blocks_words (word_at words.now) root) keys.now number }
+    ensures { result ≡ is_bucket_known (term_blocks_words (word_at words.now) root) keys.now bucket }
 {
     let held = term_word(words, root, u64::from(bucket) * 2);
     if held == 0 || marks[bucket as usize] {
@@ -187,8 +187,8 @@ fn are_buckets_known(
 ) -> bool
     requires count { count ≤ ALL_BUCKETS }
     requires length { length marks.now ≡ ALL_BUCKETS }
-    requires marked { (number : ℕ) → number < ALL_BUCKETS → get_or marks.now number false ≡ holds_one_of (term_words (word_at words.now) root) keys.now number }
-    ensures { result ≡ are_buckets_known (term_words (word_at words.now) root) keys.now count }
+    requires marked { (number : ℕ) → number < ALL_BUCKETS → get_or marks.now number false ≡ holds_one_of (term_blocks_words (word_at words.now) root) keys.now number }
+    ensures { result ≡ are_buckets_known (term_blocks_words (word_at words.now) root) keys.now count }
 {
     let mut known = true;
     for bucket in 0..count {
@@ -200,7 +200,7 @@ fn are_buckets_known(
 /// Whether the block of the root stands for the keys of the generation, by one search for each key
 /// and one look at each bucket.
 pub fn terms_stand(words: &WordTable, published: &Published) -> bool
-    ensures { result ≡ terms_stand (term_words (word_at words.now) published.now.root) published.now }
+    ensures { result ≡ terms_stand (term_blocks_words (word_at words.now) published.now.root) published.now }
 {
     let keys = published.state.keys.as_slice();
     let KeySearch { are_found, marks } = search_keys(words, published, keys);

@@ -10,9 +10,9 @@ use Rattle.term_core.specs.declared.area.AreaRef.{AreaRef}
 use Rattle.area_core.specs.declared.map.TheConstants.{TABLE_WORDS}
 use Rattle.area_core.specs.declared.table.Published.{Published}
 use Rattle.area_core.specs.declared.table.KeptArea.{KeptArea}
-use Rattle.area_core.specs.Generations.{has_serial, is_used, is_retired, tells}
+use Rattle.area_core.specs.Generations.{has_serial, is_used, is_retired_area, tells}
 use Rattle.area_core.specs.Map.{word_at, block_place}
-use Rattle.area_core.specs.Blocks.{Among, AreaStands, KeptApart, CodeStands, term_words}
+use Rattle.area_core.specs.Blocks.{Among, AreaStands, KeptApart, CodeStands, term_blocks_words}
 use Rattle.area_core.specs.Terms.{TermsStand}
 use Rattle.area_core.specs.Roots.{fresh_areas}
 use Rattle.area_core.specs.Step.{opening_published}
@@ -119,16 +119,16 @@ module _ (s : Areas) (w : WriterView) (h : IsRetiring s w) where
   code : CodeStands word gone_published
   code entry few = ap (λ (n : ℕ). n == 0) (h.blank (block_place 0 entry) (omega (arith, few)) (λ same. (let there : 1493 + entry ≡ 1118 = same in omega (arith, there))))
 
-  terms : TermsStand (term_words word gone_published.root) gone_published
+  terms : TermsStand (term_blocks_words word gone_published.root) gone_published
   terms = record {
     found = λ i k at. absurd (no_element i at);
-    only = λ key value found. absurd (none_found (term_words word gone_published.root) (λ at low. h.blank (block_place 5 at) (omega (arith, low)) (λ same. (let there : 1493 + 5 * 1024 + at ≡ 1118 = same in omega (arith, there)))) key value found);
+    only = λ key value found. absurd (none_found (term_blocks_words word gone_published.root) (λ at low. h.blank (block_place 5 at) (omega (arith, low)) (λ same. (let there : 1493 + 5 * 1024 + at ≡ 1118 = same in omega (arith, there)))) key value found);
   }
 
   -- what is retired is used by no later generation
-  stays : (g later : ℕ) (p q : Published) (serial : ℕ) → g ≤ later → slice_get (opening_published ∷ first_published ∷ gone_published ∷ []) g ≡ Some p → slice_get (opening_published ∷ first_published ∷ gone_published ∷ []) later ≡ Some q → IsTrue (is_retired p serial) → is_used q serial ≡ false
-  stays zero later p q serial le at_p at_q old = absurd (never (ap (λ (x : Published). is_retired x serial) (some_same opening_published p at_p) ∙ old))
-  stays (suc zero) later p q serial le at_p at_q old = absurd (never (ap (λ (x : Published). is_retired x serial) (some_same first_published p at_p) ∙ old))
+  stays : (g later : ℕ) (p q : Published) (serial : ℕ) → g ≤ later → slice_get (opening_published ∷ first_published ∷ gone_published ∷ []) g ≡ Some p → slice_get (opening_published ∷ first_published ∷ gone_published ∷ []) later ≡ Some q → IsTrue (is_retired_area p serial) → is_used q serial ≡ false
+  stays zero later p q serial le at_p at_q old = absurd (never (ap (λ (x : Published). is_retired_area x serial) (some_same opening_published p at_p) ∙ old))
+  stays (suc zero) later p q serial le at_p at_q old = absurd (never (ap (λ (x : Published). is_retired_area x serial) (some_same first_published p at_p) ∙ old))
   stays (suc (suc zero)) zero p q serial le at_p at_q old = absurd (omega (arith, le))
   stays (suc (suc zero)) (suc zero) p q serial le at_p at_q old = absurd (omega (arith, le))
   stays (suc (suc zero)) (suc (suc zero)) p q serial le at_p at_q old = ap (λ (x : Published). is_used x serial) (sym (some_same gone_published q at_q))
@@ -192,7 +192,7 @@ module _ (s : Areas) (w : WriterView) (h : IsRetiring s w) where
     });
   }
     where
-      one : (serial : ℕ) → IsTrue (is_retired gone_published serial) → 1 ≡ serial
+      one : (serial : ℕ) → IsTrue (is_retired_area gone_published serial) → 1 ≡ serial
       one serial is =
           elim (cases_Bool (1 == serial)) as (λ _. 1 ≡ serial) [
             | inl same ↦ eqb-true 1 serial same

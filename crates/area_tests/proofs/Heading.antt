@@ -8,7 +8,7 @@ use Rattle.shared_words.specs.Opening.{member_begun}
 use Rattle.shared_words.specs.Kinds.{MayLead}
 use Rattle.shared_words.specs.Processes.{AreAtRest}
 use Rattle.progress_words.specs.Tokens.{view_of, IsMemberOf}
-use Rattle.progress_words.specs.Reports.{Reported}
+use Rattle.progress_words.specs.Reports.{HoldsReported}
 use Rattle.progress_words.specs.Leads.{IsLeader}
 use Rattle.area_tests.specs.Work.{IsHeading}
 use Rattle.area_tests.proofs.Started.{empty_rests}
@@ -24,5 +24,5 @@ pub heads_first : (table : TableId) (old new : tokens.Member) → view_of old �
 heads_first table old new begun of leads kept = record { of = of; leads = leads; slots = kept ∙ ap (λ (m : MemberView). m.slots) begun }
 
 -- the leader leads on after a report and a try
-pub heads_on : (Served : Published → Type 0) (table : TableId) (generation : ℕ) (old mid new : tokens.Member) → IsHeading table old → Reported Served (view_of old) (view_of mid) generation → IsMemberOf table new → IsLeader (view_of new) → (view_of new).slots ≡ (view_of mid).slots → IsHeading table new
+pub heads_on : (Served : Published → Type 0) (table : TableId) (generation : ℕ) (old mid new : tokens.Member) → IsHeading table old → HoldsReported Served (view_of old) (view_of mid) generation → IsMemberOf table new → IsLeader (view_of new) → (view_of new).slots ≡ (view_of mid).slots → IsHeading table new
 heads_on Served table generation old mid new h told of leads kept = record { of = of; leads = leads; slots = kept ∙ ap (λ (m : MemberView). m.slots) told.view ∙ h.slots }

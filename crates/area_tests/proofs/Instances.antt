@@ -11,14 +11,14 @@ use Rattle.area_core.specs.declared.table.Published.{Published}
 use Rattle.area_core.specs.declared.table.KeptArea.{KeptArea}
 use Rattle.area_core.specs.Generations.{has_serial, is_kept_as, tells}
 use Rattle.area_core.specs.Map.{word_at, block_place, retire_place, doom_place}
-use Rattle.area_core.specs.Blocks.{Among, AreaStands, FitsBlock, IsForInstances, KeptApart, InstancesPlaced, CodeStands, BreakpointsStand, UsedAreKept, term_words}
+use Rattle.area_core.specs.Blocks.{Among, AreaStands, FitsBlock, IsForInstances, KeptApart, InstancesPlaced, CodeStands, BreakpointsStand, UsedAreKept, term_blocks_words}
 use Rattle.area_core.specs.Terms.{TermsStand}
-use Rattle.area_core.specs.Roots.{fresh_areas, image_of}
+use Rattle.area_core.specs.Roots.{fresh_areas, serial_image}
 use Rattle.area_core.specs.Step.{opening_published}
 use Rattle.shared_words.specs.declared.view.WriterView.{WriterView}
 use Rattle.shared_words.specs.Rule.{HasArea}
 use Rattle.shared_words.specs.Publishing.{MayPublish, kept_next}
-use Rattle.area_tests.specs.Many.{serials, ref_one, refs, images, kept_one, kepts, published_of}
+use Rattle.area_tests.specs.Many.{many_serials, ref_one, many_refs, images, kept_one, kepts, published_of}
 use Rattle.area_tests.proofs.Publishing.{no_element, never, none_found}
 
 -- ---- the instances
@@ -28,13 +28,13 @@ each_kept zero k (j, at) = absurd (no_element j at)
 each_kept (suc n) k (zero, at) = (n, omega (arith), sym (some_same (kept_one n) k at))
 each_kept (suc n) k (suc j, at) = let there = each_kept n k (j, at) in (there.0, (let low = there.1 in omega (arith, low)), there.2)
 
-pub each_ref : (n : ℕ) (a : AreaRef) → Among (refs n) a → (i : ℕ) × (i < n) × (a ≡ ref_one i)
+pub each_ref : (n : ℕ) (a : AreaRef) → Among (many_refs n) a → (i : ℕ) × (i < n) × (a ≡ ref_one i)
 each_ref zero a (j, at) = absurd (no_element j at)
 each_ref (suc n) a (zero, at) = (n, omega (arith), sym (some_same (ref_one n) a at))
 each_ref (suc n) a (suc j, at) = let there = each_ref n a (j, at) in (there.0, (let low = there.1 in omega (arith, low)), there.2)
 
 -- each instance has its block and its image
-pub ref_there : (n i : ℕ) → i < n → Among (refs n) (ref_one i)
+pub ref_there : (n i : ℕ) → i < n → Among (many_refs n) (ref_one i)
 ref_there zero i low = absurd (omega (arith, low))
 ref_there (suc n) i low =
     dite (ℕ_discrete n i)
@@ -48,12 +48,12 @@ kept_there (suc n) i low =
     (λ (same : n ≡ i). (0, ap (λ (j : ℕ). Some (kept_one j)) same))
     (λ (differ : n ≡ i → ⊥). let there = kept_there n i (omega (arith, low, differ)) in (suc there.0, there.1))
 
-pub image_there : (n i : ℕ) → i < n → image_of (images n) (suc i) ≡ Some []
+pub image_there : (n i : ℕ) → i < n → serial_image (images n) (suc i) ≡ Some []
 image_there zero i low = absurd (omega (arith, low))
 image_there (suc n) i low =
     dite (ℕ_discrete n i)
-    (λ (same : n ≡ i). ap (λ (b : Bool). cond b (Some []) (image_of (images n) (suc i))) (eq-eqb (suc n) (suc i) (ap suc same)))
-    (λ (differ : n ≡ i → ⊥). ap (λ (b : Bool). cond b (Some []) (image_of (images n) (suc i))) (ne_eqb (suc n) (suc i) (λ same. differ (omega (arith, same)))) ∙ image_there n i (omega (arith, low, differ)))
+    (λ (same : n ≡ i). ap (λ (b : Bool). cond b (Some []) (serial_image (images n) (suc i))) (eq-eqb (suc n) (suc i) (ap suc same)))
+    (λ (differ : n ≡ i → ⊥). ap (λ (b : Bool). cond b (Some []) (serial_image (images n) (suc i))) (ne_eqb (suc n) (suc i) (λ same. differ (omega (arith, same)))) ∙ image_there n i (omega (arith, low, differ)))
 
 -- where one stands in the list
 kept_place : (n i : ℕ) (k : KeptArea) → slice_get (kepts n) i ≡ Some k → (k.area.serial + i ≡ n) × (k.area.block + i ≡ n + 8)
@@ -73,26 +73,26 @@ all_apart n i j a b differ at_a at_b =
     (λ same. differ (omega (arith, one, two, same)), λ same. differ (omega (arith, three, four, same)))
 
 -- each serial up to the last is one of them
-pub serial_there : (n i : ℕ) → i < n → has_serial (serials n) (suc i) ≡ true
+pub serial_there : (n i : ℕ) → i < n → has_serial (many_serials n) (suc i) ≡ true
 serial_there zero i low = absurd (omega (arith, low))
 serial_there (suc n) i low =
     dite (ℕ_discrete n i)
-    (λ (same : n ≡ i). or_left (suc n == suc i) (has_serial (serials n) (suc i)) (eq-eqb (suc n) (suc i) (ap suc same)))
-    (λ (differ : n ≡ i → ⊥). or_right (suc n == suc i) (has_serial (serials n) (suc i)) (serial_there n i (omega (arith, low, differ))))
+    (λ (same : n ≡ i). or_left (suc n == suc i) (has_serial (many_serials n) (suc i)) (eq-eqb (suc n) (suc i) (ap suc same)))
+    (λ (differ : n ≡ i → ⊥). or_right (suc n == suc i) (has_serial (many_serials n) (suc i)) (serial_there n i (omega (arith, low, differ))))
 
-pub serial_is : (n s : ℕ) → has_serial (serials n) s ≡ true → (i : ℕ) × (i < n) × (s ≡ suc i)
+pub serial_is : (n s : ℕ) → has_serial (many_serials n) s ≡ true → (i : ℕ) × (i < n) × (s ≡ suc i)
 serial_is zero s there = absurd (never there)
 serial_is (suc n) s there =
-    elim (or_cases (suc n == s) (has_serial (serials n) s) there) as (λ _. (i : ℕ) × (i < suc n) × (s ≡ suc i)) [
+    elim (or_cases (suc n == s) (has_serial (many_serials n) s) there) as (λ _. (i : ℕ) × (i < suc n) × (s ≡ suc i)) [
       | inl same ↦ (n, omega (arith), sym (eqb-true (suc n) s same))
       | inr rest ↦ (let found = serial_is n s rest in (found.0, (let low = found.1 in omega (arith, low)), found.2))
     ]
 
 -- what all of these pass each passes
-each_passes : (test : ℕ → Bool) (n : ℕ) → list_all test (serials n) ≡ true → (i : ℕ) → i < n → test (suc i) ≡ true
+each_passes : (test : ℕ → Bool) (n : ℕ) → list_all test (many_serials n) ≡ true → (i : ℕ) → i < n → test (suc i) ≡ true
 each_passes test zero all i low = absurd (omega (arith, low))
 each_passes test (suc n) all i low =
-    let parts = and_parts (test (suc n)) (list_all test (serials n)) all in
+    let parts = and_parts (test (suc n)) (list_all test (many_serials n)) all in
     dite (ℕ_discrete n i)
     (λ (same : n ≡ i). ap (λ (k : ℕ). test (suc k)) (sym same) ∙ parts.0)
     (λ (differ : n ≡ i → ⊥). each_passes test n parts.1 i (omega (arith, low, differ)))
@@ -102,15 +102,15 @@ only_current true e = refl
 only_current false e = absurd (never e)
 
 -- what is used is kept, once each is kept as it is used
-all_used : (n : ℕ) (doomed : List ℕ) → list_all (λ s. list_any (is_kept_as (published_of n doomed) s) (kepts n)) (serials n) ≡ true → UsedAreKept (kepts n) (published_of n doomed)
+all_used : (n : ℕ) (doomed : List ℕ) → list_all (λ s. list_any (is_kept_as (published_of n doomed) s) (kepts n)) (many_serials n) ≡ true → UsedAreKept (kepts n) (published_of n doomed)
 all_used n doomed all s used =
-    let found = serial_is n s (only_current (has_serial (serials n) s) used) in
+    let found = serial_is n s (only_current (has_serial (many_serials n) s) used) in
     subst (λ (k : ℕ). IsTrue (list_any (is_kept_as (published_of n doomed) k) (kepts n))) (sym found.2) (each_passes (λ k. list_any (is_kept_as (published_of n doomed) k) (kepts n)) n all found.0 found.1)
 
 -- ---- what is published
 
 -- so many, with few doomed, of which the doom words of blocks tell already, while all other words are 0
-module _ (n : ℕ) (few : n ≤ 17) (doomed : List ℕ) (all : list_all (λ s. list_any (is_kept_as (published_of n doomed) s) (kepts n)) (serials n) ≡ true) (fresh : fresh_areas [] (published_of n doomed) ≡ kepts n) (w : WriterView) (published : w.published ≡ opening_published ∷ []) (kept : w.kept ≡ []) (others : (place : ℕ) → (place ≡ doom_place 24 → ⊥) → word_at w.words place ≡ 0)
+module _ (n : ℕ) (few : n ≤ 17) (doomed : List ℕ) (all : list_all (λ s. list_any (is_kept_as (published_of n doomed) s) (kepts n)) (many_serials n) ≡ true) (fresh : fresh_areas [] (published_of n doomed) ≡ kepts n) (w : WriterView) (published : w.published ≡ opening_published ∷ []) (kept : w.kept ≡ []) (others : (place : ℕ) → (place ≡ doom_place 24 → ⊥) → word_at w.words place ≡ 0)
     (now : (i : ℕ) → i < n → tells (word_at w.words (doom_place (9 + i))) 1 ≡ has_serial doomed (suc i)) (before : (i : ℕ) → i < n → tells (word_at w.words (doom_place (9 + i))) 0 ≡ false) where
   abbrev here : Published
   here = published_of n doomed
@@ -137,10 +137,10 @@ module _ (n : ℕ) (few : n ≤ 17) (doomed : List ℕ) (all : list_all (λ s. l
       let low = found.1 in
       subst (λ (x : AreaRef). IsForInstances x.block) (sym found.2) (record { first = omega (arith); last = omega (arith, low, few) })
 
-  terms : TermsStand (term_words word here.root) here
+  terms : TermsStand (term_blocks_words word here.root) here
   terms = record {
     found = λ i k at. absurd (no_element i at);
-    only = λ key value found. absurd (none_found (term_words word here.root) (λ at low. others (block_place 5 at) (λ same. absurd (let there : 1493 + 5 * 1024 + at ≡ 1453 = same in omega (arith, there)))) key value found);
+    only = λ key value found. absurd (none_found (term_blocks_words word here.root) (λ at low. others (block_place 5 at) (λ same. absurd (let there : 1493 + 5 * 1024 + at ≡ 1453 = same in omega (arith, there)))) key value found);
   }
 
   not_retired : (i : ℕ) → i < n → word (retire_place (9 + i)) ≡ 0

@@ -22,7 +22,7 @@ use Rattle.shared_words.specs.Notes.{MaySplitNote}
 use Rattle.shared_words.specs.Views.{published_at}
 use Rattle.shared_words.specs.Publishing.{MayPublish, MayStoreWord, FitsWord, IsRootOf, with_next, with_word}
 use Rattle.progress_words.specs.Tokens.{written_by, IsWriterOf}
-use Rattle.area_tests.specs.Many.{serials, many_published, IsPrepared}
+use Rattle.area_tests.specs.Many.{many_serials, many_published, IsPrepared}
 use Rattle.area_tests.specs.Work.{IsUnder}
 use Rattle.area_tests.specs.First.{IsBegun}
 use Rattle.area_tests.proofs.Begun.{begun_empty, begun_newest, long_begun}
@@ -84,7 +84,7 @@ second_many w v h is = ap (λ (x : WriterView). published_at x.published 1) is �
 pub current_many : (p : Published) (serial : ℕ) → p ≡ many_published → 1 ≤ serial → serial ≤ 17 → is_current p serial ≡ true
 current_many p serial is first last =
     let next : suc (serial - 1) ≡ serial = omega (arith, first) in
-    ap (λ (x : Published). is_current x serial) is ∙ ap (has_serial (serials 17)) (sym next) ∙ serial_there 17 (serial - 1) (omega (arith, first, last))
+    ap (λ (x : Published). is_current x serial) is ∙ ap (has_serial (many_serials 17)) (sym next) ∙ serial_there 17 (serial - 1) (omega (arith, first, last))
 
 -- no note was made yet
 pub may_note : (table : TableId) (opening : Opening) (handed : ℕ) (old mid new : writers.Writer) → IsHanding table opening handed old.seat → mid.seat.me.0 ≡ Writer (with_word 1453 1 (written_by old)) → written_by new ≡ with_next many_published (written_by mid) → MaySplitNote (written_by new) 0

@@ -17,18 +17,18 @@ use Rattle.marks.specs.Steps.{HasNote}
 use Rattle.shared_words.specs.declared.opening.Opening.{Opening}
 use Rattle.shared_words.specs.declared.seats.Member as tokens
 use Rattle.shared_words.specs.declared.view.MemberView.{MemberView}
-use Rattle.shared_words.specs.Views.{newest}
+use Rattle.shared_words.specs.Views.{newest_number}
 use Rattle.shared_words.specs.Processes.{process_of, note_in, under_of, AreAtRest, AreCopied}
 use Rattle.shared_words.specs.Rule.{IsBeginning}
 use Rattle.shared_words.specs.Seats.{IsRooted}
 use Rattle.shared_words.specs.Slots.{with_slot}
 use Rattle.shared_words.specs.Kinds.{MayWait}
 use Rattle.progress_words.specs.Tokens.{view_of, IsMemberOf, IsSameMember}
-use Rattle.progress_words.specs.Reports.{IsAwake, Reported, having_reported}
-use Rattle.anchors.specs.Holds.{anchors_of, Holds, MayHold, HasHeld}
+use Rattle.progress_words.specs.Reports.{IsAwake, HoldsReported, having_reported}
+use Rattle.anchors.specs.Holds.{anchors_of, HoldsAnchors, MayHold, HasHeld}
 use Rattle.anchors.specs.Drops.{HasDropped}
 use Rattle.anchors.specs.Turns.{MayMark}
-use Rattle.area_tests.specs.Many.{serials, ref_one}
+use Rattle.area_tests.specs.Many.{many_serials, ref_one}
 use Rattle.area_tests.specs.Several.{three_published}
 use Rattle.area_tests.specs.Work.{IsWorking, IsUnder, GoesOn, HasEndedTurn, turns_done}
 use Rattle.area_tests.proofs.Instances.{serial_there}
@@ -74,7 +74,7 @@ dropped_goes table opening process serial kind old new h of number copied droppe
 
 -- each of the three is current under the first generation, and may be held
 pub current_one : (at : ℕ) (area : AreaRef) → at < 3 → area ≡ ref_one at → is_current three_published area.serial ≡ true
-current_one at area low is = ap (λ (a : AreaRef). has_serial (serials 3) a.serial) is ∙ serial_there 3 at low
+current_one at area low is = ap (λ (a : AreaRef). has_serial (many_serials 3) a.serial) is ∙ serial_there 3 at low
 
 -- its serial has room in an anchor
 pub room_one : (at : ℕ) (area : AreaRef) → at < 3 → area ≡ ref_one at → area.serial < 2 ^ 62
@@ -84,7 +84,7 @@ pub may_first : (process serial : ℕ) (m : MemberView) → is_current three_pub
 may_first process serial m current under = inr (ap (λ (p : Published). is_current p serial) under ∙ current)
 
 -- what is held for a frame may be held for a literal
-pub may_too : (process serial : ℕ) (m : MemberView) → Holds Frame (anchors_of m process) serial → MayHold process Literal serial m
+pub may_too : (process serial : ℕ) (m : MemberView) → HoldsAnchors Frame (anchors_of m process) serial → MayHold process Literal serial m
 may_too process serial m held = inr (inr held)
 
 -- ---- turns
@@ -137,11 +137,11 @@ follows_on counter (Leads scans) is = is
 -- a member that reports holds no earlier generation
 later_held : (counter : ℕ) (old new : MemberView) → new ≡ having_reported counter new.seen old → IsBeginning old.seen new.seen → old.member.generation < length old.seen → old.member.generation ≤ new.member.generation
 later_held counter old new is learnt low =
-    let now : new.member.generation ≡ newest new.seen = ap (λ (m : MemberView). m.member.generation) is in
+    let now : new.member.generation ≡ newest_number new.seen = ap (λ (m : MemberView). m.member.generation) is in
     let long : length new.seen ≡ length (old.seen ++ learnt.0) = ap (λ (xs : List Published). length xs) learnt.1 in
     omega (arith, now, long, low, length-append old.seen learnt.0)
 
-pub reported_works : (Served : Published → Type 0) (table : TableId) (opening : Opening) (process generation : ℕ) (old new : tokens.Member) → IsWorking table opening process old → IsMemberOf table new → IsSameMember old new → IsAwake (view_of new) → IsRooted new.root (view_of new) → Reported Served (view_of old) (view_of new) generation → IsWorking table opening process new
+pub reported_works : (Served : Published → Type 0) (table : TableId) (opening : Opening) (process generation : ℕ) (old new : tokens.Member) → IsWorking table opening process old → IsMemberOf table new → IsSameMember old new → IsAwake (view_of new) → IsRooted new.root (view_of new) → HoldsReported Served (view_of old) (view_of new) generation → IsWorking table opening process new
 reported_works Served table opening process generation old new h of same awake rooted told =
     let is = told.view in
     let later = later_held told.counter (view_of old) (view_of new) is told.learnt h.ends.learnt in
@@ -162,5 +162,5 @@ reported_works Served table opening process generation old new h of same awake r
       unkilled = λ place word s at told_kill. h.unkilled place word s (ap (λ (m : MemberView). slice_get (anchors_of m process) place) (sym is) ∙ at) told_kill;
     }
 
-pub reported_turns : (Served : Published → Type 0) (process generation : ℕ) (old new : MemberView) → Reported Served old new generation → turns_done process new ≡ turns_done process old
+pub reported_turns : (Served : Published → Type 0) (process generation : ℕ) (old new : MemberView) → HoldsReported Served old new generation → turns_done process new ≡ turns_done process old
 reported_turns Served process generation old new told = ap (λ (m : MemberView). turns_done process m) told.view

@@ -12,8 +12,8 @@ use Rattle.area_core.specs.declared.table.Published.{Published}
 use Rattle.area_core.specs.declared.table.KeptArea.{KeptArea}
 use Rattle.area_core.specs.Generations.{has_serial, is_used, is_kept_as, tells}
 use Rattle.area_core.specs.Map.{word_at, block_place, retire_place, doom_place}
-use Rattle.area_core.specs.Blocks.{Among, AreaStands, FitsBlock, ImageStands, IsForInstances, KeptApart, InstancesPlaced, CodeStands, BreakpointsStand, UsedAreKept, term_words}
-use Rattle.area_core.specs.Terms.{looked, look_at, outcome, key_in, found_in, value_in, TermsStand}
+use Rattle.area_core.specs.Blocks.{Among, AreaStands, FitsBlock, ImageStands, IsForInstances, KeptApart, InstancesPlaced, CodeStands, BreakpointsStand, UsedAreKept, term_blocks_words}
+use Rattle.area_core.specs.Terms.{looked, look_at, found_outcome, key_in, found_in, bucket_value, TermsStand}
 use Rattle.area_core.specs.Roots.{fresh_areas}
 use Rattle.area_core.specs.Step.{opening_published}
 use Rattle.shared_words.specs.declared.view.WriterView.{WriterView}
@@ -60,14 +60,14 @@ words_written w v words begun same h =
 -- ---- a term table without keys
 
 module _ (block : ℕ → ℕ) (empty : (at : ℕ) → at < 1024 → block at ≡ 0) where
-  looks_on : (key bucket : ℕ) (known : Option (Option ℕ)) → key_in block bucket ≡ 0 → outcome known ≡ None → outcome (look_at block key bucket known) ≡ None
+  looks_on : (key bucket : ℕ) (known : Option (Option ℕ)) → key_in block bucket ≡ 0 → found_outcome known ≡ None → found_outcome (look_at block key bucket known) ≡ None
   looks_on key bucket (Some found) zero_key e = e
   looks_on key bucket None zero_key e = rw zero_key refl
 
   in_block : (n : ℕ) → n % BUCKETS * 2 < 1024
   in_block n = let low : n % BUCKETS < BUCKETS = mod_below n BUCKETS (omega (arith)) in omega (arith, low)
 
-  looked_empty : (key n : ℕ) → outcome (looked block key n) ≡ None
+  looked_empty : (key n : ℕ) → found_outcome (looked block key n) ≡ None
   unfolding looked
   looked_empty key zero = refl
   looked_empty key (suc n) = looks_on key _ (looked block key n) (empty _ (in_block (key % BUCKETS + n))) (looked_empty key n)
@@ -75,7 +75,7 @@ module _ (block : ℕ → ℕ) (empty : (at : ℕ) → at < 1024 → block at �
   pub none_found : (key word : ℕ) → found_in block key ≡ Some word → ⊥
   none_found key word found =
       let none = looked_empty key BUCKETS in
-      none_some (ap (option_map (value_in block)) (sym none) ∙ found)
+      none_some (ap (option_map (bucket_value block)) (sym none) ∙ found)
     where
       none_some : None ≡ Some word → ⊥
       none_some e = (cc)
@@ -122,10 +122,10 @@ module _ (w : WriterView) (h : HasWords w) where
   placed : InstancesPlaced first_published
   placed a among instance = subst (λ (x : AreaRef). IsForInstances x.block) (sym (only first_area a among.0 among.1)) (record { first = omega (arith); last = omega (arith) })
 
-  terms : TermsStand (term_words word first_published.root) first_published
+  terms : TermsStand (term_blocks_words word first_published.root) first_published
   terms = record {
     found = λ i k at. absurd (no_element i at);
-    only = λ key value found. absurd (none_found (term_words word first_published.root) (λ at low. below (block_place 5 at) (omega (arith, low))) key value found);
+    only = λ key value found. absurd (none_found (term_blocks_words word first_published.root) (λ at low. below (block_place 5 at) (omega (arith, low))) key value found);
   }
 
   -- it stands under each generation that traces, dooms and retires nothing

@@ -9,9 +9,9 @@ use Rattle.atomic_table.specs.Seated.{TableId}
 use Rattle.term_core.specs.declared.area.AreaRef.{AreaRef}
 use Rattle.area_core.specs.declared.table.Published.{Published}
 use Rattle.area_core.specs.declared.table.KeptArea.{KeptArea}
-use Rattle.area_core.specs.Generations.{has_serial, is_used, is_retired, tells}
+use Rattle.area_core.specs.Generations.{has_serial, is_used, is_retired_area, tells}
 use Rattle.area_core.specs.Map.{word_at, block_place, retire_place, doom_place}
-use Rattle.area_core.specs.Blocks.{Among, AreaStands, KeptApart, CodeStands, term_words}
+use Rattle.area_core.specs.Blocks.{Among, AreaStands, KeptApart, CodeStands, term_blocks_words}
 use Rattle.area_core.specs.Terms.{TermsStand}
 use Rattle.area_core.specs.Roots.{fresh_areas}
 use Rattle.area_core.specs.Step.{opening_published}
@@ -33,7 +33,7 @@ use Rattle.literal_areas.proofs.Uses.{use_here, use_other}
 use Rattle.literal_areas.proofs.Serials.{use_after}
 use Rattle.area_tests.specs.First.{IsBegun}
 use Rattle.area_tests.specs.Gone.{AreGone}
-use Rattle.area_tests.specs.Many.{serials, ref_one, kept_one, kepts}
+use Rattle.area_tests.specs.Many.{many_serials, ref_one, kept_one, kepts}
 use Rattle.area_tests.specs.Several.{three_published, retired_published, AreTaken, AreRetiring}
 use Rattle.area_tests.proofs.Instances.{each_kept, each_ref, ref_there, kept_there, image_there, all_apart, serial_there, serial_is, only_current, may_publish_current}
 use Rattle.area_tests.proofs.Publishing.{no_element, never, none_found}
@@ -48,7 +48,7 @@ module _ (w : WriterView) (begun : IsBegun w) (one : w.published ≡ opening_pub
     three_listed : IsListed s three_published
     three_listed = record {
       stand = λ area among. (let found = each_ref 3 area among in subst (Stands s) (sym found.2) (ap (option_and_then serial_of) (taken.live found.0 found.1)));
-      used = λ serial used. (let found = serial_is 3 serial (only_current (has_serial (serials 3) serial) used) in (9 + found.0, taken.live found.0 found.1 ∙ ap (λ (n : ℕ). Some (Live n)) (sym found.2)));
+      used = λ serial used. (let found = serial_is 3 serial (only_current (has_serial (many_serials 3) serial) used) in (9 + found.0, taken.live found.0 found.1 ∙ ap (λ (n : ℕ). Some (Live n)) (sym found.2)));
       retired = λ block serial first is. absurd (taken.none block serial first is);
       past = λ serial is. absurd (never is);
     }
@@ -154,19 +154,19 @@ module _ (s : Areas) (w : WriterView) (h : AreRetiring 3 s w) where
   code : CodeStands word retired_published
   code entry few = ap (λ (n : ℕ). n == 0) (h.blank (block_place 0 entry) (let high : 1121 ≤ 1493 + entry = omega (arith) in high))
 
-  terms : TermsStand (term_words word retired_published.root) retired_published
+  terms : TermsStand (term_blocks_words word retired_published.root) retired_published
   terms = record {
     found = λ i k at. absurd (no_element i at);
-    only = λ key value found. absurd (none_found (term_words word retired_published.root) (λ at low. h.blank (block_place 5 at) (let high : 1121 ≤ 1493 + 5 * 1024 + at = omega (arith) in high)) key value found);
+    only = λ key value found. absurd (none_found (term_blocks_words word retired_published.root) (λ at low. h.blank (block_place 5 at) (let high : 1121 ≤ 1493 + 5 * 1024 + at = omega (arith) in high)) key value found);
   }
 
   abbrev all : List Published
   all = opening_published ∷ three_published ∷ retired_published ∷ []
 
   -- what is retired is used by no later generation
-  stays : (g later : ℕ) (p q : Published) (serial : ℕ) → g ≤ later → slice_get all g ≡ Some p → slice_get all later ≡ Some q → IsTrue (is_retired p serial) → is_used q serial ≡ false
-  stays zero later p q serial le at_p at_q old = absurd (never (ap (λ (x : Published). is_retired x serial) (some_same opening_published p at_p) ∙ old))
-  stays (suc zero) later p q serial le at_p at_q old = absurd (never (ap (λ (x : Published). is_retired x serial) (some_same three_published p at_p) ∙ old))
+  stays : (g later : ℕ) (p q : Published) (serial : ℕ) → g ≤ later → slice_get all g ≡ Some p → slice_get all later ≡ Some q → IsTrue (is_retired_area p serial) → is_used q serial ≡ false
+  stays zero later p q serial le at_p at_q old = absurd (never (ap (λ (x : Published). is_retired_area x serial) (some_same opening_published p at_p) ∙ old))
+  stays (suc zero) later p q serial le at_p at_q old = absurd (never (ap (λ (x : Published). is_retired_area x serial) (some_same three_published p at_p) ∙ old))
   stays (suc (suc zero)) zero p q serial le at_p at_q old = absurd (omega (arith, le))
   stays (suc (suc zero)) (suc zero) p q serial le at_p at_q old = absurd (omega (arith, le))
   stays (suc (suc zero)) (suc (suc zero)) p q serial le at_p at_q old = ap (λ (x : Published). is_used x serial) (sym (some_same retired_published q at_q))
@@ -230,7 +230,7 @@ module _ (s : Areas) (w : WriterView) (h : AreRetiring 3 s w) where
   retired_listed = record {
     stand = λ area among. (let found = each_ref 3 area among in subst (Stands s) (sym found.2) (ap (option_and_then serial_of) (h.retired found.0 found.1)));
     used = λ serial used. absurd (never used);
-    retired = λ block serial first is. (let found = h.others block serial first is in subst (λ (n : ℕ). has_serial (serials 3) n ≡ true) (sym found.2) (serial_there 3 found.0 found.1));
+    retired = λ block serial first is. (let found = h.others block serial first is in subst (λ (n : ℕ). has_serial (many_serials 3) n ≡ true) (sym found.2) (serial_there 3 found.0 found.1));
     past = λ serial is. (let found = serial_is 3 serial is in subst (IsPast s) (sym found.2) (past found.0 found.1));
   }
 

@@ -8,7 +8,7 @@ use Rattle.atomic_table.specs.Seated.{TableId}
 use Rattle.prgr_core.specs.Step.{follows}
 use Rattle.area_core.specs.declared.table.Published.{Published}
 use Rattle.area_core.specs.declared.readers.Slots.TheVariants.{OfMember}
-use Rattle.area_core.specs.Readers.{is_of}
+use Rattle.area_core.specs.Readers.{is_slot_of}
 use Rattle.area_core.specs.Step.{opening_published}
 use Rattle.area_core.proofs.Counted.{opened}
 use Rattle.marks.specs.Names.{IsAtRest, tells_kill}
@@ -21,7 +21,7 @@ use Rattle.shared_words.specs.declared.view.ProcessSlot.{ProcessSlot}
 use Rattle.shared_words.specs.declared.view.MemberView.{MemberView}
 use Rattle.shared_words.specs.declared.view.NoteView.{NoteView}
 use Rattle.shared_words.specs.declared.view.WriterView.{WriterView}
-use Rattle.shared_words.specs.Views.{newest, published_at}
+use Rattle.shared_words.specs.Views.{newest_number, published_at}
 use Rattle.shared_words.specs.Opening.{member_begun}
 use Rattle.shared_words.specs.Notes.{note_begun, note_joined}
 use Rattle.shared_words.specs.Processes.{slot_in, note_in, under_of, AreAtRest, AreCopied}
@@ -30,7 +30,7 @@ use Rattle.shared_words.specs.Seats.{IsRooted}
 use Rattle.shared_words.proofs.ShownMembers.{still_at, there_is}
 use Rattle.shared_words.proofs.SlotFrames.{rests}
 use Rattle.progress_words.specs.Tokens.{view_of, noted_by, IsMemberOf, IsSameMember, IsNoteOf}
-use Rattle.progress_words.specs.Reports.{IsAwake, Reported, having_reported}
+use Rattle.progress_words.specs.Reports.{IsAwake, HoldsReported, having_reported}
 use Rattle.anchors.specs.Holds.{anchors_of, IsUnkilled, MayRun}
 use Rattle.area_tests.specs.Work.{IsWorking, IsUnder, turns_done}
 
@@ -77,23 +77,23 @@ module _ (process counter : ℕ) (w : WriterView) (mid new : MemberView) (joined
   mid_seen : mid.seen ≡ w.published
   mid_seen = ap (λ (m : MemberView). m.seen) joined ∙ ap (λ (b : Bool). cond b w.published (opening_published ∷ [])) (lt-ltb 1 (length w.published) (omega (arith, two)))
 
-  under_first : IsBeginning mid.seen new.seen → newest new.seen ≡ 1 → IsUnder (published_at w.published 1) new
+  under_first : IsBeginning mid.seen new.seen → newest_number new.seen ≡ 1 → IsUnder (published_at w.published 1) new
   under_first learnt one =
       let there = there_is w.published 1 opening_published (omega (arith, two)) in
       ap (λ (g : ℕ). published_at new.seen g) (ap (λ (m : MemberView). m.member.generation) now ∙ one)
       ∙ ap (λ (o : Option Published). unwrap_or o opening_published) (ap (λ (xs : List Published). slice_get xs 1) (learnt.1 ∙ ap (λ (xs : List Published). xs ++ learnt.0) mid_seen) ∙ still_at w.published learnt.0 1 _ there)
 
-  note_there : note_in new.notes process ≡ Some (newest w.published)
+  note_there : note_in new.notes process ≡ Some (newest_number w.published)
   note_there =
       ap (λ (m : MemberView). note_in m.notes process) now
-      ∙ ap (λ (b : Bool). cond b (Some (newest w.published)) (note_in [] process)) (eq-eqb process process refl)
+      ∙ ap (λ (b : Bool). cond b (Some (newest_number w.published)) (note_in [] process)) (eq-eqb process process refl)
 
-  has_note : newest new.seen ≡ 1 → HasNote (note_in new.notes process) (under_of new)
+  has_note : newest_number new.seen ≡ 1 → HasNote (note_in new.notes process) (under_of new)
   has_note one =
       let generation : new.member.generation ≡ 1 = ap (λ (m : MemberView). m.member.generation) now ∙ one in
       subst (λ (o : Option ℕ). HasNote o (under_of new)) (sym note_there) (omega (arith, generation, two))
 
-  runs : (opening : Opening) → process < opening.members → opening.members ≤ 16 → IsAwake new → newest new.seen ≡ 1 → MayRun opening process new
+  runs : (opening : Opening) → process < opening.members → opening.members ≤ 16 → IsAwake new → newest_number new.seen ≡ 1 → MayRun opening process new
   runs opening below few awake one = record {
     awake = awake;
     below = omega (arith, below, few);
@@ -108,10 +108,10 @@ begun_follows process counter w mid new joined is two = subst (λ (m : MemberVie
 -- ---- the tokens
 
 pub begins : (Served : Published → Type 0) (table : TableId) (opening : Opening) (process generation : ℕ) (w : WriterView) (note : notes.Note) (old mid new : tokens.Member) → process < opening.members → opening.members ≤ 16 → length w.published ≡ 2 → view_of old ≡ member_begun process → AreCopied old.anchors.items (view_of old) → IsSameMember old mid
-    → noted_by note ≡ note_begun process w → view_of mid ≡ note_joined (noted_by note) (view_of old) → IsMemberOf table new → IsSameMember mid new → IsAwake (view_of new) → IsRooted new.root (view_of new) → Reported Served (view_of mid) (view_of new) generation → generation ≡ 1 → IsWorking table opening process new
+    → noted_by note ≡ note_begun process w → view_of mid ≡ note_joined (noted_by note) (view_of old) → IsMemberOf table new → IsSameMember mid new → IsAwake (view_of new) → IsRooted new.root (view_of new) → HoldsReported Served (view_of mid) (view_of new) generation → generation ≡ 1 → IsWorking table opening process new
 begins Served table opening process generation w note old mid new below few two begun copied first noted joined of second awake rooted told one =
     let joined_now : view_of mid ≡ note_joined (note_begun process w) (member_begun process) = joined ∙ (λ i. note_joined (noted i) (begun i)) in
-    let latest : newest (view_of new).seen ≡ 1 = sym told.newest ∙ one in
+    let latest : newest_number (view_of new).seen ≡ 1 = sym told.newest ∙ one in
     let none = slots_none process told.counter w (view_of mid) (view_of new) joined_now told.view two in
     record {
       ends = record {
@@ -125,20 +125,20 @@ begins Served table opening process generation w note old mid new below few two 
       unkilled = empty_unkilled (view_of new) process none;
     }
 
-pub begins_under : (Served : Published → Type 0) (process generation : ℕ) (w : WriterView) (note : notes.Note) (old mid new : MemberView) → length w.published ≡ 2 → old ≡ member_begun process → noted_by note ≡ note_begun process w → mid ≡ note_joined (noted_by note) old → Reported Served mid new generation → generation ≡ 1 → IsUnder (published_at w.published 1) new
+pub begins_under : (Served : Published → Type 0) (process generation : ℕ) (w : WriterView) (note : notes.Note) (old mid new : MemberView) → length w.published ≡ 2 → old ≡ member_begun process → noted_by note ≡ note_begun process w → mid ≡ note_joined (noted_by note) old → HoldsReported Served mid new generation → generation ≡ 1 → IsUnder (published_at w.published 1) new
 begins_under Served process generation w note old mid new two begun noted joined told one =
     under_first process told.counter w mid new (joined ∙ (λ i. note_joined (noted i) (begun i))) told.view two told.learnt (sym told.newest ∙ one)
 
-pub begins_turns : (Served : Published → Type 0) (process generation : ℕ) (w : WriterView) (note : notes.Note) (old mid new : MemberView) → length w.published ≡ 2 → old ≡ member_begun process → noted_by note ≡ note_begun process w → mid ≡ note_joined (noted_by note) old → Reported Served mid new generation → turns_done process new ≡ 0
+pub begins_turns : (Served : Published → Type 0) (process generation : ℕ) (w : WriterView) (note : notes.Note) (old mid new : MemberView) → length w.published ≡ 2 → old ≡ member_begun process → noted_by note ≡ note_begun process w → mid ≡ note_joined (noted_by note) old → HoldsReported Served mid new generation → turns_done process new ≡ 0
 begins_turns Served process generation w note old mid new two begun noted joined told =
     ap (λ (xs : List ProcessSlot). length (slot_in xs process).marks) (slots_none process told.counter w mid new (joined ∙ (λ i. note_joined (noted i) (begun i))) told.view two)
 
 -- ---- before the report
 
-pub own_note : (table : TableId) (opening : Opening) (process : ℕ) (token : tokens.Member) (note : notes.Note) → IsMemberOf table token → view_of token ≡ member_begun process → process < opening.members → IsNoteOf table process note → IsTrue (is_of (OfMember token.number opening.members) note.process)
+pub own_note : (table : TableId) (opening : Opening) (process : ℕ) (token : tokens.Member) (note : notes.Note) → IsMemberOf table token → view_of token ≡ member_begun process → process < opening.members → IsNoteOf table process note → IsTrue (is_slot_of (OfMember token.number opening.members) note.process)
 own_note table opening process token note of view below is =
     let number : token.number ≡ process = sym of.numbered ∙ ap (λ (m : MemberView). m.member.number) view in
-    subst (λ (z : ℕ × ℕ). IsTrue (is_of (OfMember z.0 opening.members) z.1)) (λ i. (sym number i, sym is.process i)) (and_from (not (opening.members == 0)) (process % opening.members == process) (ap not (ne_eqb opening.members 0 (λ none. absurd (omega (arith, none, below))))) (eq-eqb (process % opening.members) process (mod-eq_of_lt below)))
+    subst (λ (z : ℕ × ℕ). IsTrue (is_slot_of (OfMember z.0 opening.members) z.1)) (λ i. (sym number i, sym is.process i)) (and_from (not (opening.members == 0)) (process % opening.members == process) (ap not (ne_eqb opening.members 0 (λ none. absurd (omega (arith, none, below))))) (eq-eqb (process % opening.members) process (mod-eq_of_lt below)))
 
 pub note_its : (table : TableId) (process : ℕ) (token : notes.Note) → IsNoteOf table process token → IsNoteOf table token.process token
 note_its table process token is = record { process = refl; seat = is.seat }

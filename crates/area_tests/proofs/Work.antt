@@ -12,7 +12,7 @@ use Rattle.shared_words.specs.declared.seats.Member as tokens
 use Rattle.shared_words.specs.declared.view.MemberView.{MemberView}
 use Rattle.shared_words.specs.Processes.{process_of, AreCopied}
 use Rattle.progress_words.specs.Tokens.{view_of, IsMemberOf}
-use Rattle.anchors.specs.Holds.{anchors_of, IsUnkilled, HasHeld, MayRun, Holds}
+use Rattle.anchors.specs.Holds.{anchors_of, IsUnkilled, HasHeld, MayRun, HoldsAnchors}
 use Rattle.anchors.specs.Drops.{AnchorsStored, HasDropped, HasKilled}
 use Rattle.anchors.proofs.Stored.{hold_stored, one_stored, run_still}
 use Rattle.area_tests.specs.Work.{MayEnd, IsWorking, IsUnder, turns_done}
@@ -49,7 +49,7 @@ held_under process kind serial p old new held = under_stored process p old new (
 pub held_turns : (process : ℕ) (kind : Kind) (serial : ℕ) (old new : MemberView) → HasHeld process kind serial old new → turns_done process new ≡ turns_done process old
 held_turns process kind serial old new held = turns_stored process old new (hold_stored process old new held.stored)
 
-pub held_names : (process : ℕ) (kind : Kind) (serial : ℕ) (old new : MemberView) → HasHeld process kind serial old new → Holds kind (anchors_of new process) serial
+pub held_names : (process : ℕ) (kind : Kind) (serial : ℕ) (old new : MemberView) → HasHeld process kind serial old new → HoldsAnchors kind (anchors_of new process) serial
 held_names process kind serial old new held = (held.names kind serial).1 (inr (refl, refl))
 
 -- none is, where there is no room

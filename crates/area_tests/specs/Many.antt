@@ -10,18 +10,18 @@ use Rattle.area_core.specs.Step.{empty_generation, opening_published, to_publish
 use Rattle.shared_words.specs.declared.view.WriterView.{WriterView}
 
 -- so many serials from 1 on, the last first
-abbrev pub serials : ℕ → List ℕ
-serials zero = []
-serials (suc n) = suc n ∷ serials n
+abbrev pub many_serials : ℕ → List ℕ
+many_serials zero = []
+many_serials (suc n) = suc n ∷ many_serials n
 
 -- the area behind so many
 abbrev pub ref_one : ℕ → AreaRef
 ref_one i = record { serial = suc i; block = 9 + i }
 
 -- so many areas, the last first
-abbrev pub refs : ℕ → List AreaRef
-refs zero = []
-refs (suc n) = ref_one n ∷ refs n
+abbrev pub many_refs : ℕ → List AreaRef
+many_refs zero = []
+many_refs (suc n) = ref_one n ∷ many_refs n
 
 -- their images
 abbrev pub images : ℕ → List AreaWords
@@ -39,7 +39,7 @@ kepts (suc n) = kept_one n ∷ kepts n
 
 -- so many are current, and these are doomed; it is published over the first block of each sort
 abbrev pub published_of : ℕ → List ℕ → Published
-published_of n doomed = to_publish 0 0 0 (record empty_generation { current = serials n; doomed = doomed; areas = images n }) (refs n)
+published_of n doomed = to_publish 0 0 0 (record empty_generation { current = many_serials n; doomed = doomed; areas = images n }) (many_refs n)
 
 -- seventeen are current, and the sixteenth is doomed
 abbrev pub many_published : Published

@@ -13,7 +13,7 @@ use Rattle.literal_areas.specs.declared.areas.Areas.{Areas}
 use Rattle.literal_areas.specs.declared.blocks.BlockUse.TheVariants.{Live, Retired}
 use Rattle.literal_areas.specs.Blocks.{use_of}
 use Rattle.literal_areas.specs.Owned.{AreOf}
-use Rattle.area_tests.specs.Many.{serials, refs, images, kepts, published_of}
+use Rattle.area_tests.specs.Many.{many_serials, many_refs, images, kepts, published_of}
 use Rattle.area_tests.specs.Gone.{AreGone}
 
 -- the generation in which all three are current
@@ -22,7 +22,7 @@ three_published = published_of 3 []
 
 -- the generation in which all three are retired
 abbrev pub retired_published : Published
-retired_published = to_publish 0 0 0 (record empty_generation { retired = serials 3; areas = images 3 }) (refs 3)
+retired_published = to_publish 0 0 0 (record empty_generation { retired = many_serials 3; areas = images 3 }) (many_refs 3)
 
 -- the first so many areas are taken, and none is retired
 pub record AreTaken (count : ℕ) (s : Areas) : Type 0 where

@@ -5,7 +5,7 @@ ghost use Rattle.area_core.specs.Generations.{is_current};
 ghost use Rattle.shared_words.specs.declared.table.TheConstants.{PROCESSES};
 ghost use Rattle.shared_words.specs.Processes.{AreCopied};
 ghost use Rattle.progress_words.specs.Tokens.{view_of, IsMemberOf};
-ghost use Rattle.anchors.specs.Holds.{anchors_of, names_for, Holds, MayHold};
+ghost use Rattle.anchors.specs.Holds.{anchors_of, names_for, HoldsAnchors, MayHold};
 ghost use Rattle.area_tests.specs.Several.{three_published};
 ghost use Rattle.area_tests.specs.Work.{IsWorking, IsPlaying, IsUnder, GoesOn, HasEndedTurn, turns_done};
 ghost use Rattle.area_tests.specs.declared.players.TheConstants.{EARLY, TURNS};
@@ -37,7 +37,7 @@ fn names(word: u64, serial: u64, kind: Kind) -> bool
 fn names_area(member: &Member, process: u32, serial: u64, kind: Kind) -> bool
     requires copied { AreCopied member.now.anchors.items (view_of member.now) }
     requires process { process < PROCESSES }
-    ensures { result ≡ true → Holds kind (anchors_of (view_of member.now) process) serial }
+    ensures { result ≡ true → HoldsAnchors kind (anchors_of (view_of member.now) process) serial }
 {
     for place in 1..ANCHORS + 1 {
         if names(member.anchor(process, place), serial, kind) {

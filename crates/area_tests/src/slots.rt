@@ -7,7 +7,7 @@ ghost use Rattle.term_core.specs.declared.hold.Kind.TheVariants as kinds;
 ghost use Rattle.shared_words.specs.Making.{IsHanding, IsMemberBegun};
 ghost use Rattle.shared_words.specs.Publishing.{with_next};
 ghost use Rattle.progress_words.specs.Tokens.{view_of, written_by, IsMemberOf, IsWriterOf};
-ghost use Rattle.anchors.specs.Holds.{anchors_of, Holds};
+ghost use Rattle.anchors.specs.Holds.{anchors_of, HoldsAnchors};
 ghost use Rattle.area_tests.specs.Many.{many_published, IsPrepared};
 ghost use Rattle.area_tests.specs.Work.{IsWorking, IsUnder, turns_done};
 
@@ -51,7 +51,7 @@ fn hold_frame(shared: &Shared<Any>, member: &mut Member, serial: u64) -> bool
     ensures works { IsWorking shared.now.table.shared.table_id shared.now.table.shared.key 0 member.new }
     ensures under { IsUnder many_published (view_of member.new) }
     ensures turns { turns_done 0 (view_of member.new) ≡ turns_done 0 (view_of member.old) }
-    ensures holds { result ≡ true → Holds kinds.Frame (anchors_of (view_of member.new) 0) serial }
+    ensures holds { result ≡ true → HoldsAnchors kinds.Frame (anchors_of (view_of member.new) 0) serial }
 {
     match hold(shared, member, 0, AreaRef { serial, block: 0 }, Kind::Frame) {
         Ok(()) => true,
@@ -68,8 +68,8 @@ fn hold_both(shared: &Shared<Any>, member: &mut Member, serial: u64) -> bool
     ensures works { IsWorking shared.now.table.shared.table_id shared.now.table.shared.key 0 member.new }
     ensures under { IsUnder many_published (view_of member.new) }
     ensures turns { turns_done 0 (view_of member.new) ≡ turns_done 0 (view_of member.old) }
-    ensures frame { result ≡ true → Holds kinds.Frame (anchors_of (view_of member.new) 0) serial }
-    ensures literal { result ≡ true → Holds kinds.Literal (anchors_of (view_of member.new) 0) serial }
+    ensures frame { result ≡ true → HoldsAnchors kinds.Frame (anchors_of (view_of member.new) 0) serial }
+    ensures literal { result ≡ true → HoldsAnchors kinds.Literal (anchors_of (view_of member.new) 0) serial }
 {
     if !hold_frame(shared, member, serial) {
         return false;
@@ -91,12 +91,12 @@ fn hold_both(shared: &Shared<Any>, member: &mut Member, serial: u64) -> bool
 fn drop_frame(shared: &Shared<Any>, member: &mut Member, serial: u64)
     requires works { IsWorking shared.now.table.shared.table_id shared.now.table.shared.key 0 member.old }
     requires under { IsUnder many_published (view_of member.old) }
-    requires frame { Holds kinds.Frame (anchors_of (view_of member.old) 0) serial }
-    requires literal { Holds kinds.Literal (anchors_of (view_of member.old) 0) serial }
+    requires frame { HoldsAnchors kinds.Frame (anchors_of (view_of member.old) 0) serial }
+    requires literal { HoldsAnchors kinds.Literal (anchors_of (view_of member.old) 0) serial }
     ensures works { IsWorking shared.now.table.shared.table_id shared.now.table.shared.key 0 member.new }
     ensures under { IsUnder many_published (view_of member.new) }
     ensures turns { turns_done 0 (view_of member.new) ≡ turns_done 0 (view_of member.old) }
-    ensures literal { Holds kinds.Literal (anchors_of (view_of member.new) 0) serial }
+    ensures literal { HoldsAnchors kinds.Literal (anchors_of (view_of member.new) 0) serial }
 {
     drop_hold(shared, member, 0, AreaRef { serial, block: 0 }, Kind::Frame);
 }
@@ -106,7 +106,7 @@ fn drop_frame(shared: &Shared<Any>, member: &mut Member, serial: u64)
 fn drop_literal(shared: &Shared<Any>, member: &mut Member, serial: u64)
     requires works { IsWorking shared.now.table.shared.table_id shared.now.table.shared.key 0 member.old }
     requires under { IsUnder many_published (view_of member.old) }
-    requires literal { Holds kinds.Literal (anchors_of (view_of member.old) 0) serial }
+    requires literal { HoldsAnchors kinds.Literal (anchors_of (view_of member.old) 0) serial }
     ensures works { IsWorking shared.now.table.shared.table_id shared.now.table.shared.key 0 member.new }
     ensures under { IsUnder many_published (view_of member.new) }
     ensures turns { turns_done 0 (view_of member.new) ≡ turns_done 0 (view_of member.old) }

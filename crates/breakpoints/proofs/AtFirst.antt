@@ -7,7 +7,7 @@ use Rattle.area_core.specs.declared.table.Published.{Published}
 use Rattle.area_core.specs.Blocks.{Among}
 use Rattle.area_core.specs.Step.{opening_published}
 use Rattle.shared_words.specs.declared.view.WriterView.{WriterView}
-use Rattle.shared_words.specs.Views.{newest, published_at}
+use Rattle.shared_words.specs.Views.{newest_number, published_at}
 use Rattle.progress_words.specs.Roots.{newest_of}
 use Rattle.breakpoints.specs.Indices.{BreakpointsRest}
 use Rattle.breakpoints.specs.Laws.{IsUnwritten}
@@ -21,7 +21,7 @@ first_alone (suc g) p at = absurd (cc)
 
 module _ (w : WriterView) (h : IsUnwritten w) where
   newest_is : newest_of w ≡ opening_published
-  newest_is = ap (λ (ps : List Published). published_at ps (newest ps)) h.published
+  newest_is = ap (λ (ps : List Published). published_at ps (newest_number ps)) h.published
 
   unkept : (k : KeptArea) → Among w.kept k → ⊥
   unkept k among = among_none k (subst (λ (ks : List KeptArea). Among ks k) h.kept among)

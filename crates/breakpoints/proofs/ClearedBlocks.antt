@@ -2,7 +2,7 @@
 use Rattle.std.proofs.Common.{◌≡◌, ℕ, ◌<◌, inl, inr, true, List, length, refl, sym, ap, subst, ◌∙◌, arith}
 use Rattle.std.proofs.lemmas.Bool.{cases_eq}
 use Rattle.area_core.specs.declared.table.KeptArea.{KeptArea}
-use Rattle.area_core.specs.Map.{block_place, breakpoint_place, entry_at, word_at}
+use Rattle.area_core.specs.Map.{block_place, breakpoint_place, image_entry_at, word_at}
 use Rattle.area_core.specs.Blocks.{Among, FitsBlock, IsForInstances}
 use Rattle.area_core.specs.Generations.{has_function}
 use Rattle.shared_words.specs.declared.view.WriterView.{WriterView}
@@ -21,10 +21,10 @@ module _ (block : ℕ) (old : WriterView) (words : List ℕ) (placed : IsForInst
         | inr differ ↦ inl (decision_else other function for few differ)
       ]
 
-  entry_else : (k : KeptArea) (function : ℕ) → Among old.kept k → has_function k function ≡ true → word_at words (block_place k.area.block (entry_at function)) ≡ word_at old.words (block_place k.area.block (entry_at function))
+  entry_else : (k : KeptArea) (function : ℕ) → Among old.kept k → has_function k function ≡ true → word_at words (block_place k.area.block (image_entry_at function)) ≡ word_at old.words (block_place k.area.block (image_entry_at function))
   entry_else k function among has =
       let both = area_for k function (fit k among) has in
-      others (block_place k.area.block (entry_at function)) (λ bp more low few. entry_off k.area.block function bp block more both.0.first both.0.last both.1 low placed few)
+      others (block_place k.area.block (image_entry_at function)) (λ bp more low few. entry_off k.area.block function bp block more both.0.first both.0.last both.1 low placed few)
 
   leaves_here : LeavesDecisions old (record old { words = words })
   leaves_here = record {

@@ -6,7 +6,7 @@ use Rattle.term_core.specs.declared.area.AreaRef.{AreaRef}
 use Rattle.term_core.specs.declared.area.CodeRef.{CodeRef}
 use Rattle.area_core.specs.declared.table.KeptArea.{KeptArea}
 use Rattle.area_core.specs.declared.table.Published.{Published}
-use Rattle.area_core.specs.Map.{block_place, breakpoint_at, breakpoint_place, entry_at, word_at}
+use Rattle.area_core.specs.Map.{block_place, breakpoint_at, breakpoint_place, image_entry_at, word_at}
 use Rattle.area_core.specs.Blocks.{Among, IsForInstances}
 use Rattle.area_core.specs.Generations.{has_function}
 use Rattle.area_core.specs.Readers.{reads_in_block}
@@ -51,10 +51,10 @@ module _ (at : CodeRef) (w : WriterView) (value : ℕ) (after : List ℕ) (can :
   active_off block function placed few = decision_off (active_breakpoints w) block function own.fits placed few (λ same _ _. behind_differs (active_breakpoints w) same)
 
   -- and so is each entry word
-  entry_same : (k : KeptArea) (function : ℕ) → Among w.kept k → has_function k function ≡ true → word_at after (block_place k.area.block (entry_at function)) ≡ word_at w.words (block_place k.area.block (entry_at function))
+  entry_same : (k : KeptArea) (function : ℕ) → Among w.kept k → has_function k function ≡ true → word_at after (block_place k.area.block (image_entry_at function)) ≡ word_at w.words (block_place k.area.block (image_entry_at function))
   entry_same k function among has =
       let both = area_for k function (own.areas k among) has in
-      set.there (block_place k.area.block (entry_at function)) (entry_off k.area.block function (staging_breakpoints w) at.area.block at.function both.0.first both.0.last both.1 (behind_fits (active_breakpoints w)) for.0 for.1)
+      set.there (block_place k.area.block (image_entry_at function)) (entry_off k.area.block function (staging_breakpoints w) at.area.block at.function both.0.first both.0.last both.1 (behind_fits (active_breakpoints w)) for.0 for.1)
 
   agree_other : (block function : ℕ) → IsForInstances block → function < 16 → (block ≡ at.area.block → function ≡ at.function → ⊥) → word_at after (breakpoint_place (staging_breakpoints w) block function) ≡ word_at after (breakpoint_place (active_breakpoints w) block function)
   agree_other block function placed few other =

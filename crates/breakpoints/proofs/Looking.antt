@@ -12,7 +12,7 @@ use Rattle.area_core.specs.declared.map.WordKind.{WordKind}
 use Rattle.area_core.specs.declared.map.WordKind.TheVariants.{InBlock, Retire}
 use Rattle.area_core.specs.declared.table.Published.{Published}
 use Rattle.area_core.specs.Generations.{is_current, is_instance, is_key_area, is_reached}
-use Rattle.area_core.specs.Map.{block_place, breakpoint_at, breakpoint_place, entry_at, kind_at, retire_place}
+use Rattle.area_core.specs.Map.{block_place, breakpoint_at, breakpoint_place, image_entry_at, kind_at, retire_place}
 use Rattle.area_core.specs.Readers.{has_instance_in, has_root, held_by_member, is_read_under, reaches_block, reads_in_block, reads_word}
 use Rattle.area_core.specs.Step.{opening_published}
 use Rattle.area_core.proofs.Frames.{big_room, breakpoint_fits}
@@ -24,7 +24,7 @@ use Rattle.shared_words.specs.declared.view.View.{View}
 use Rattle.shared_words.specs.declared.view.View.TheVariants.{Member}
 use Rattle.shared_words.specs.Processes.{NamesArea, held_by_view}
 use Rattle.shared_words.specs.Publishing.{MayLoadWord, ReadsHeld, WordTells, is_of_block, with_block_word, word_found}
-use Rattle.shared_words.specs.Seats.{IsMemberSeat, IsSameSeat, Place, member_of}
+use Rattle.shared_words.specs.Seats.{IsMemberSeat, IsSameSeat, SeatPlace, member_of}
 use Rattle.shared_words.proofs.ShownMembers.{there_is}
 use Rattle.progress_words.specs.Tokens.{view_of}
 use Rattle.breakpoints.specs.Decisions.{HasLookedUp, IsWordFound, MayDecide}
@@ -84,21 +84,21 @@ module _ (root : ℕ) (m : MemberView) (at : CodeRef) (h : MayDecide root m at) 
       choose false k e = absurd (cc)
 
   -- the entry word
-  pub may_entry : MayLoadWord (block_place at.area.block (entry_at at.function)) (Member m)
+  pub may_entry : MayLoadWord (block_place at.area.block (image_entry_at at.function)) (Member m)
   may_entry =
       let few = h.few in
-      may_either (block_place at.area.block (entry_at at.function)) (InBlock at.area.block (entry_at at.function))
-      (kind_block at.area.block (entry_at at.function) (let last = h.placed.last in omega (arith, last)) (big_room at.area.block (entry_at at.function) h.placed.last (omega (arith, few))))
+      may_either (block_place at.area.block (image_entry_at at.function)) (InBlock at.area.block (image_entry_at at.function))
+      (kind_block at.area.block (image_entry_at at.function) (let last = h.placed.last in omega (arith, last)) (big_room at.area.block (image_entry_at at.function) h.placed.last (omega (arith, few))))
       (eq-eqb at.area.block at.area.block refl)
       (λ current. behind ∙ reached_here current)
     where
       late : (n : ℕ) (x y z w : Bool) → 9 ≤ n → (if nat_lt n 3 then x else if nat_lt n 5 then y else if nat_lt n 9 then z else w) ≡ w
       late n x y z w low = grind (arith, nat_tests)
 
-      behind : reads_in_block (held_by_view m) at.area.block (entry_at at.function) ≡ reaches_block (held_by_view m) at.area.block
+      behind : reads_in_block (held_by_view m) at.area.block (image_entry_at at.function) ≡ reaches_block (held_by_view m) at.area.block
       behind =
           let p : Published = held_by_view m in
-          late at.area.block (at.area.block == p.root.code) ((at.area.block == 3 + p.root.bp) && has_instance_in p (9 + entry_at at.function / 16)) (at.area.block == 5 + p.root.term) (reaches_block p at.area.block) h.placed.first
+          late at.area.block (at.area.block == p.root.code) ((at.area.block == 3 + p.root.bp) && has_instance_in p (9 + image_entry_at at.function / 16)) (at.area.block == 5 + p.root.term) (reaches_block p at.area.block) h.placed.first
 
   -- the retire word
   pub may_retire : MayLoadWord (retire_place at.area.block) (Member m)
@@ -151,7 +151,7 @@ module _ (root : ℕ) (m : MemberView) (at : CodeRef) (h : MayDecide root m at) 
 
 -- ---- what a load leaves
 
-pub token_read : (table : TableId) (number after : ℕ) (old new : Place) (word found : ℕ) → IsMemberSeat table number old → IsSameSeat old new → after ≡ number → new.me.0 ≡ word_found word found old.me.0 → IsMemberSeat table after new
+pub token_read : (table : TableId) (number after : ℕ) (old new : SeatPlace) (word found : ℕ) → IsMemberSeat table number old → IsSameSeat old new → after ≡ number → new.me.0 ≡ word_found word found old.me.0 → IsMemberSeat table after new
 token_read table number after old new word found h same numbered view =
     let is : new.me.0 ≡ Member (with_block_word word found (member_of old.me.0)) = view ∙ ap (word_found word found) h.view in
     record {

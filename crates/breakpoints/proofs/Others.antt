@@ -7,13 +7,13 @@ use Rattle.term_core.specs.declared.area.AreaRef.{AreaRef}
 use Rattle.term_core.specs.declared.area.CodeRef.{CodeRef}
 use Rattle.area_core.specs.declared.table.KeptArea.{KeptArea}
 use Rattle.area_core.specs.declared.table.Published.{Published}
-use Rattle.area_core.specs.Map.{block_place, breakpoint_place, entry_at, word_at}
+use Rattle.area_core.specs.Map.{block_place, breakpoint_place, image_entry_at, word_at}
 use Rattle.area_core.specs.Blocks.{Among, BreakpointsStand, EntriesStand, InstancesPlaced, IsForInstances}
-use Rattle.area_core.specs.Generations.{is_instance, is_traced, traced_word}
+use Rattle.area_core.specs.Generations.{is_instance, is_traced_function, traced_word}
 use Rattle.area_core.specs.Stores.{entry_word}
 use Rattle.area_core.proofs.Tests.{passed_by, some_passes}
 use Rattle.shared_words.specs.declared.view.WriterView.{WriterView}
-use Rattle.shared_words.specs.Views.{newest, published_at}
+use Rattle.shared_words.specs.Views.{newest_number, published_at}
 use Rattle.shared_words.specs.Kinds.{counter_kept}
 use Rattle.shared_words.proofs.ShownMembers.{still_at}
 use Rattle.progress_words.specs.Needs.{HasLoadedCounter, HasTaken}
@@ -34,7 +34,7 @@ Agree patched words bp =
 
 module _ (old new : WriterView) (leaves : LeavesDecisions old new) where
   newest_same : newest_of new ≡ newest_of old
-  newest_same = ap (λ (ps : List Published). published_at ps (newest ps)) leaves.published
+  newest_same = ap (λ (ps : List Published). published_at ps (newest_number ps)) leaves.published
 
   staging_same : staging_breakpoints new ≡ staging_breakpoints old
   staging_same = ap (λ (p : Published). (p.root.bp + 1) % 2) newest_same
@@ -133,10 +133,10 @@ module _ (old new : WriterView) (leaves : LeavesDecisions old new) where
   -- its entry word is as before
   pub entry_still : (at : CodeRef) → IsPatchable old at → word_at new.words (entry_place at) ≡ word_at old.words (entry_place at)
   entry_still at can =
-      subst (λ (a : AreaRef). word_at new.words (block_place a.block (entry_at at.function)) ≡ word_at old.words (block_place a.block (entry_at at.function))) can.is (leaves.entries can.area at.function (kept_still at can) can.has)
+      subst (λ (a : AreaRef). word_at new.words (block_place a.block (image_entry_at at.function)) ≡ word_at old.words (block_place a.block (image_entry_at at.function))) can.is (leaves.entries can.area at.function (kept_still at can) can.has)
 
-  taken_still : (need : ℕ) → HasTaken old (newest old.published) need → HasTaken new (newest new.published) need
-  taken_still need taken = subst (λ (ps : List Published). HasTaken new (newest ps) need) (sym leaves.published) (leaves.more _ taken)
+  taken_still : (need : ℕ) → HasTaken old (newest_number old.published) need → HasTaken new (newest_number new.published) need
+  taken_still need taken = subst (λ (ps : List Published). HasTaken new (newest_number ps) need) (sym leaves.published) (leaves.more _ taken)
 
   pub patching_still : (at : CodeRef) (need : ℕ) → IsPatching at old need → IsPatching at new need
   patching_still at need h = record {
@@ -151,8 +151,8 @@ module _ (old new : WriterView) (leaves : LeavesDecisions old new) where
   pub staged_still : (at : CodeRef) (on : Bool) → AreIndices (Some at) old → IsPatchable old at → IsDecisionStaged at on old → IsDecisionStaged at on new
   staged_still at on own can h = record { unread = unread_still h.unread; staged = staged_word_still (Some at) own at (entry_word on) can h.staged }
 
-  pub traced_still : (at : CodeRef) (on : Bool) → is_traced (newest_of old) at.area.serial at.function ≡ on → is_traced (newest_of new) at.area.serial at.function ≡ on
-  traced_still at on is = ap (λ (p : Published). is_traced p at.area.serial at.function) newest_same ∙ is
+  pub traced_still : (at : CodeRef) (on : Bool) → is_traced_function (newest_of old) at.area.serial at.function ≡ on → is_traced_function (newest_of new) at.area.serial at.function ≡ on
+  traced_still at on is = ap (λ (p : Published). is_traced_function p at.area.serial at.function) newest_same ∙ is
 
   -- the patch is at its phase still
   pub phase_still : (at : CodeRef) (on : Bool) (phase : Phase) → PhaseStands at on phase old → PhaseStands at on phase new

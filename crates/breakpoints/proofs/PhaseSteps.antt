@@ -6,10 +6,10 @@ use Rattle.prgr_core.proofs.Parts.{some_same}
 use Rattle.term_core.specs.declared.area.CodeRef.{CodeRef}
 use Rattle.area_core.specs.declared.table.Published.{Published}
 use Rattle.area_core.specs.Map.{word_at}
-use Rattle.area_core.specs.Generations.{is_traced}
+use Rattle.area_core.specs.Generations.{is_traced_function}
 use Rattle.area_core.specs.Stores.{entry_word}
 use Rattle.shared_words.specs.declared.view.WriterView.{WriterView}
-use Rattle.shared_words.specs.Views.{newest}
+use Rattle.shared_words.specs.Views.{newest_number}
 use Rattle.shared_words.specs.Publishing.{MayStoreEntry, with_word}
 use Rattle.progress_words.specs.Needs.{HasLoadedCounter, HasTaken}
 use Rattle.progress_words.specs.Roots.{newest_of}
@@ -58,7 +58,7 @@ module _ (at : CodeRef) (on : Bool) (w v : WriterView) (can : IsPatchable w at) 
   decide_patched = subst (HasPatched at w) (sym view_is) (decided_patched at w (entry_word on) after can own set)
 
   -- where the newest generation says the same, the indices are at rest
-  pub decide_rest : is_traced (newest_of w) at.area.serial at.function ≡ on → BreakpointsRest v
+  pub decide_rest : is_traced_function (newest_of w) at.area.serial at.function ≡ on → BreakpointsRest v
   decide_rest traced =
       let for = patch_for (Some at) w at own can in
       let active : entry_word on ≡ word_at w.words (decision_place (active_breakpoints w) at) = sym (own.stands at.area can.listed can.instance at.function for.1 ∙ traced_is (newest_of w) at.area.serial at.function on traced) in
@@ -67,7 +67,7 @@ module _ (at : CodeRef) (on : Bool) (w v : WriterView) (can : IsPatchable w at) 
 
 -- ---- an entry word is stored
 
-module _ (at : CodeRef) (on : Bool) (w v : WriterView) (can : IsPatchable w at) (own : AreIndices (Some at) w) (safe : on ≡ false → is_traced (newest_of w) at.area.serial at.function ≡ false) (stored : v ≡ with_word (entry_place at) (entry_word on) w) where
+module _ (at : CodeRef) (on : Bool) (w v : WriterView) (can : IsPatchable w at) (own : AreIndices (Some at) w) (safe : on ≡ false → is_traced_function (newest_of w) at.area.serial at.function ≡ false) (stored : v ≡ with_word (entry_place at) (entry_word on) w) where
   abbrev entries : List ℕ
   entries = slice_set w.words (entry_place at) (entry_word on)
 
@@ -85,7 +85,7 @@ module _ (at : CodeRef) (on : Bool) (w v : WriterView) (can : IsPatchable w at) 
   entry_off_is true none = absurd (omega (arith, none))
   entry_off_is false none = refl
 
-  safe_word : entry_word on ≡ 0 → is_traced (newest_of w) at.area.serial at.function ≡ false
+  safe_word : entry_word on ≡ 0 → is_traced_function (newest_of w) at.area.serial at.function ≡ false
   safe_word none = safe (entry_off_is on none)
 
   pub entry_indices : AreIndices (Some at) v
@@ -108,13 +108,13 @@ module _ (at : CodeRef) (on : Bool) (w v : WriterView) (can : IsPatchable w at) 
   pub entry_unread : IsStagingUnread w → IsStagingUnread v
   entry_unread unread = subst IsStagingUnread (sym entry_view) unread
 
-  pub entry_traced : (b : Bool) → is_traced (newest_of w) at.area.serial at.function ≡ b → is_traced (newest_of v) at.area.serial at.function ≡ b
-  entry_traced b is = ap (λ (u : WriterView). is_traced (newest_of u) at.area.serial at.function) entry_view ∙ is
+  pub entry_traced : (b : Bool) → is_traced_function (newest_of w) at.area.serial at.function ≡ b → is_traced_function (newest_of v) at.area.serial at.function ≡ b
+  entry_traced b is = ap (λ (u : WriterView). is_traced_function (newest_of u) at.area.serial at.function) entry_view ∙ is
 
 -- ---- the steps
 
 -- the decision is staged
-pub stage_stands : (at : CodeRef) (on : Bool) (old mid new : WriterView) (need : ℕ) → PhaseStands at on Begun old → mid ≡ with_word (decision_place (staging_breakpoints old) at) (entry_word on) old → HasLoadedCounter mid new → HasTaken new (newest mid.published) need → PhaseStands at on (Staged need) new × HasPatched at old new
+pub stage_stands : (at : CodeRef) (on : Bool) (old mid new : WriterView) (need : ℕ) → PhaseStands at on Begun old → mid ≡ with_word (decision_place (staging_breakpoints old) at) (entry_word on) old → HasLoadedCounter mid new → HasTaken new (newest_number mid.published) need → PhaseStands at on (Staged need) new × HasPatched at old new
 stage_stands at on old mid new need h stored loaded taken =
     let own = weakened at old h.0.indices in
     let leaves = counted_leaves mid new loaded in
@@ -124,7 +124,7 @@ stage_stands at on old mid new need h stored loaded taken =
         record {
           patchable = patchable_still mid new leaves at can;
           indices = indices_still mid new leaves (Some at) indices;
-          taken = subst (λ (ps : List Published). HasTaken new (newest ps) need) (sym leaves.published) taken;
+          taken = subst (λ (ps : List Published). HasTaken new (newest_number ps) need) (sym leaves.published) taken;
         },
         staged_still mid new leaves at on indices can (decide_staged at on old mid h.1 own h.0.unread stored),
       ),
@@ -143,10 +143,10 @@ module _ (at : CodeRef) (on : Bool) (old w mid new : WriterView) (need next : �
   pub may_enter : MayStoreEntry w at true
   may_enter = record { area = can_w.area; kept = can_w.kept; of = can_w.is; has = can_w.has; few = (patch_for (Some at) w at own_w can_w).1; untraced = λ off. absurd (true≢false off) }
 
-  safe_on : true ≡ false → is_traced (newest_of w) at.area.serial at.function ≡ false
+  safe_on : true ≡ false → is_traced_function (newest_of w) at.area.serial at.function ≡ false
   safe_on off = absurd (true≢false off)
 
-  module _ (stored : mid ≡ with_word (entry_place at) (entry_word true) w) (last : HasLoadedCounter mid new) (taken : HasTaken new (newest mid.published) next) where
+  module _ (stored : mid ≡ with_word (entry_place at) (entry_word true) w) (last : HasLoadedCounter mid new) (taken : HasTaken new (newest_number mid.published) next) where
     can_m : IsPatchable mid at
     can_m = entry_patchable at true w mid can_w own_w safe_on stored
 
@@ -166,7 +166,7 @@ module _ (at : CodeRef) (on : Bool) (old w mid new : WriterView) (need next : �
       record {
         patchable = patchable_still mid new (counted_leaves mid new last) at can_m;
         indices = indices_still mid new (counted_leaves mid new last) (Some at) own_m;
-        taken = subst (λ (ps : List Published). HasTaken new (newest ps) next) (sym (counted_leaves mid new last).published) taken;
+        taken = subst (λ (ps : List Published). HasTaken new (newest_number ps) next) (sym (counted_leaves mid new last).published) taken;
       },
       staged_still mid new (counted_leaves mid new last) at on own_m can_m staged_m,
       is,
@@ -184,7 +184,7 @@ module _ (at : CodeRef) (on : Bool) (old w mid new : WriterView) (need next : �
   patching_w : IsPatching at w need
   patching_w = patching_still old w (counted_leaves old w first) at need h.0
 
-  untraced_w : is_traced (newest_of w) at.area.serial at.function ≡ false
+  untraced_w : is_traced_function (newest_of w) at.area.serial at.function ≡ false
   untraced_w = traced_still old w (counted_leaves old w first) at on h.1 ∙ is
 
   -- it may be stored, as no generation that may be read traces the function
@@ -195,10 +195,10 @@ module _ (at : CodeRef) (on : Bool) (old w mid new : WriterView) (need next : �
     of = patching_w.patchable.is;
     has = patching_w.patchable.has;
     few = (patch_for (Some at) w at patching_w.indices patching_w.patchable).1;
-    untraced = λ _ g q may there. ap (λ (p : Published). is_traced p at.area.serial at.function) (newest_alone w need some patching_w.taken enough g q may there) ∙ untraced_w;
+    untraced = λ _ g q may there. ap (λ (p : Published). is_traced_function p at.area.serial at.function) (newest_alone w need some patching_w.taken enough g q may there) ∙ untraced_w;
   }
 
-  module _ (stored : mid ≡ with_word (entry_place at) (entry_word false) w) (last : HasLoadedCounter mid new) (taken : HasTaken new (newest mid.published) next) where
+  module _ (stored : mid ≡ with_word (entry_place at) (entry_word false) w) (last : HasLoadedCounter mid new) (taken : HasTaken new (newest_number mid.published) next) where
     can_r : IsPatchable mid at
     can_r = entry_patchable at false w mid patching_w.patchable patching_w.indices (λ _. untraced_w) stored
 
@@ -208,7 +208,7 @@ module _ (at : CodeRef) (on : Bool) (old w mid new : WriterView) (need next : �
     unread_r : IsStagingUnread mid
     unread_r = entry_unread at false w mid patching_w.patchable patching_w.indices (λ _. untraced_w) stored (unread_behind w need some patching_w.taken enough)
 
-    traced_r : is_traced (newest_of mid) at.area.serial at.function ≡ on
+    traced_r : is_traced_function (newest_of mid) at.area.serial at.function ≡ on
     traced_r = entry_traced at false w mid patching_w.patchable patching_w.indices (λ _. untraced_w) stored on (untraced_w ∙ sym is)
 
     pub restore_stands : PhaseStands at on (Restored next) new
@@ -216,7 +216,7 @@ module _ (at : CodeRef) (on : Bool) (old w mid new : WriterView) (need next : �
       record {
         patchable = patchable_still mid new (counted_leaves mid new last) at can_r;
         indices = indices_still mid new (counted_leaves mid new last) (Some at) own_r;
-        taken = subst (λ (ps : List Published). HasTaken new (newest ps) next) (sym (counted_leaves mid new last).published) taken;
+        taken = subst (λ (ps : List Published). HasTaken new (newest_number ps) next) (sym (counted_leaves mid new last).published) taken;
       },
       traced_still mid new (counted_leaves mid new last) at on traced_r,
       is,
@@ -236,7 +236,7 @@ module _ (at : CodeRef) (on : Bool) (old w mid new : WriterView) (need next : �
 
 -- what is so at the last phase
 abbrev AtLast : CodeRef → Bool → Phase → WriterView → Type 0
-AtLast at on phase w = (need : ℕ) × (phase_need phase ≡ Some need) × IsPatching at w need × (is_traced (newest_of w) at.area.serial at.function ≡ on)
+AtLast at on phase w = (need : ℕ) × (phase_need phase ≡ Some need) × IsPatching at w need × (is_traced_function (newest_of w) at.area.serial at.function ≡ on)
 
 last_is : (at : CodeRef) (on : Bool) (phase : Phase) (w : WriterView) → PhaseStands at on phase w → IsLastPhase on phase → AtLast at on phase w
 last_is at true (IsSwitched need) w h last = (need, refl, h.0, h.1)
@@ -256,7 +256,7 @@ module _ (at : CodeRef) (on : Bool) (phase : Phase) (old w : WriterView) (need :
   pub last_unread : IsStagingUnread w
   last_unread = unread_behind w need some last_patching.taken enough
 
-  pub last_traced : is_traced (newest_of w) at.area.serial at.function ≡ on
+  pub last_traced : is_traced_function (newest_of w) at.area.serial at.function ≡ on
   last_traced = traced_still old w (counted_leaves old w first) at on at_last.3
 
   module _ (new : WriterView) (stored : new ≡ with_word (decision_place (staging_breakpoints w) at) (entry_word on) w) where

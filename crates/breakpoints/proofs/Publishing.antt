@@ -12,7 +12,7 @@ use Rattle.area_core.specs.Step.{opening_published}
 use Rattle.area_core.proofs.EntryStores.{same_area}
 use Rattle.area_core.proofs.RootTests.{in_either}
 use Rattle.shared_words.specs.declared.view.WriterView.{WriterView}
-use Rattle.shared_words.specs.Views.{newest, published_at}
+use Rattle.shared_words.specs.Views.{newest_number, published_at}
 use Rattle.shared_words.specs.Rule.{MayBeRead}
 use Rattle.shared_words.specs.Publishing.{kept_next, with_next}
 use Rattle.shared_words.proofs.ShownMembers.{still_at, there_is}
@@ -27,19 +27,19 @@ use Rattle.breakpoints.proofs.Spots.{behind_differs}
 -- ---- which generations may be read
 
 -- the newest generation stands at its number
-pub newest_there : (w : WriterView) → 0 < length w.published → slice_get w.published (newest w.published) ≡ Some (newest_of w)
-newest_there w some = there_is w.published (newest w.published) opening_published (omega (arith, some))
+pub newest_there : (w : WriterView) → 0 < length w.published → slice_get w.published (newest_number w.published) ≡ Some (newest_of w)
+newest_there w some = there_is w.published (newest_number w.published) opening_published (omega (arith, some))
 
 -- once a value is reached that was taken at the newest generation, only that one may be read
-pub newest_alone : (w : WriterView) (need : ℕ) → 0 < length w.published → HasTaken w (newest w.published) need → need ≤ w.counter → (g : ℕ) (q : Published) → MayBeRead w g → slice_get w.published g ≡ Some q → q ≡ newest_of w
+pub newest_alone : (w : WriterView) (need : ℕ) → 0 < length w.published → HasTaken w (newest_number w.published) need → need ≤ w.counter → (g : ℕ) (q : Published) → MayBeRead w g → slice_get w.published g ≡ Some q → q ≡ newest_of w
 newest_alone w need some taken enough g q reads at =
-    let last = reads (record { generation = newest w.published; need = need }) taken enough in
+    let last = reads (record { generation = newest_number w.published; need = need }) taken enough in
     let within = slice_get_within w.published g q at in
-    let number : g ≡ newest w.published = omega (arith, last, within) in
+    let number : g ≡ newest_number w.published = omega (arith, last, within) in
     some_same q (newest_of w) (sym at ∙ ap (slice_get w.published) number ∙ newest_there w some)
 
 -- so no thread reads the staging index
-pub unread_behind : (w : WriterView) (need : ℕ) → 0 < length w.published → HasTaken w (newest w.published) need → need ≤ w.counter → IsStagingUnread w
+pub unread_behind : (w : WriterView) (need : ℕ) → 0 < length w.published → HasTaken w (newest_number w.published) need → need ≤ w.counter → IsStagingUnread w
 unread_behind w need some taken enough g q reads at same =
     behind_differs (newest_of w).root.bp (ap (λ (p : Published). p.root.bp) (sym (newest_alone w need some taken enough g q reads at)) ∙ same)
 

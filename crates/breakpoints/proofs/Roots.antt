@@ -6,7 +6,7 @@ use Rattle.area_core.specs.declared.table.KeptArea.{KeptArea}
 use Rattle.area_core.specs.declared.table.Published.{Published}
 use Rattle.area_core.specs.Map.{breakpoint_place, word_at}
 use Rattle.area_core.specs.Blocks.{Among, BreakpointsStand, EntriesStand}
-use Rattle.area_core.specs.Generations.{is_traced, traced_word}
+use Rattle.area_core.specs.Generations.{is_traced_function, traced_word}
 use Rattle.area_core.specs.Roots.{fresh_areas}
 use Rattle.area_core.proofs.FromFacts.{never}
 use Rattle.area_core.proofs.RootTests.{in_either}
@@ -20,8 +20,8 @@ use Rattle.breakpoints.proofs.Standing.{traced_alike, traced_is}
 use Rattle.breakpoints.proofs.Publishing.{kept_fit, next_indices, next_unread}
 
 module _ (w : WriterView) (p : Published) (keeps : KeepsTraces w p) (rest : BreakpointsRest w) where
-  untraced : (serial function : ℕ) → is_traced (newest_of w) serial function ≡ false → is_traced p serial function ≡ false
-  untraced serial function is = never (is_traced p serial function) (λ traced. true≢false (sym (keeps.fewer serial function traced) ∙ is))
+  untraced : (serial function : ℕ) → is_traced_function (newest_of w) serial function ≡ false → is_traced_function p serial function ≡ false
+  untraced serial function is = never (is_traced_function p serial function) (λ traced. true≢false (sym (keeps.fewer serial function traced) ∙ is))
 
   stands_next : BreakpointsStand (word_at w.words) p
   stands_next a among instance function few =
@@ -33,7 +33,7 @@ module _ (w : WriterView) (p : Published) (keeps : KeepsTraces w p) (rest : Brea
 
   entries_next : (k : KeptArea) → Among (kept_next w p) k → EntriesStand (word_at w.words) k p
   entries_next k among function has none =
-      elim (in_either w.kept (fresh_areas w.kept p) among.0 k among.1) as (λ _. is_traced p k.area.serial function ≡ false) [
+      elim (in_either w.kept (fresh_areas w.kept p) among.0 k among.1) as (λ _. is_traced_function p k.area.serial function ≡ false) [
         | inl was ↦ untraced k.area.serial function (rest.indices.entries k (among.0, was) function has none)
         | inr fresh ↦ keeps.untraced k function (fresh.0, fresh.2)
       ]

@@ -2,7 +2,7 @@
 use Rattle.std.proofs.Common.{◌≡◌, ℕ, ◌+◌, ◌-◌, ◌*◌, ◌%◌, ◌<◌, ◌≤◌, true, sym, ap, ◌∙◌, arith}
 use Rattle.area_core.specs.declared.map.WordKind.TheVariants.{InBlock}
 use Rattle.area_core.specs.declared.table.KeptArea.{KeptArea}
-use Rattle.area_core.specs.Map.{kind_at, block_place, breakpoint_at, breakpoint_place, entry_at}
+use Rattle.area_core.specs.Map.{kind_at, block_place, breakpoint_at, breakpoint_place, image_entry_at}
 use Rattle.area_core.specs.Generations.{has_function}
 use Rattle.area_core.specs.Blocks.{FitsBlock, IsForInstances}
 use Rattle.area_core.proofs.Places.{kind_block}
@@ -45,25 +45,25 @@ decisions_apart bp block function other also more fits for few fits_too for_too 
 -- ---- entry words
 
 -- an entry word is one of the block of its instance
-pub entry_kind : (block function : ℕ) → block < 64 → function < 16 → kind_at (block_place block (entry_at function)) ≡ InBlock block (entry_at function)
-entry_kind block function big few = kind_block block (entry_at function) (omega (arith, big)) (big_room block (entry_at function) big (omega (arith, few)))
+pub entry_kind : (block function : ℕ) → block < 64 → function < 16 → kind_at (block_place block (image_entry_at function)) ≡ InBlock block (image_entry_at function)
+entry_kind block function big few = kind_block block (image_entry_at function) (omega (arith, big)) (big_room block (image_entry_at function) big (omega (arith, few)))
 
-pub entry_within : (block function : ℕ) → block < 64 → function < 16 → block_place block (entry_at function) < 83413
-entry_within block function big few = block_within (block_place block (entry_at function)) block (entry_at function) (entry_kind block function big few)
+pub entry_within : (block function : ℕ) → block < 64 → function < 16 → block_place block (image_entry_at function) < 83413
+entry_within block function big few = block_within (block_place block (image_entry_at function)) block (image_entry_at function) (entry_kind block function big few)
 
 entry_back : (f g : ℕ) → f * 4 + 6 ≡ g * 4 + 6 → f ≡ g
 entry_back f g same = omega (arith, same)
 
 -- two entry words in one place are one
-pub entries_apart : (block function other more : ℕ) → block < 64 → function < 16 → other < 64 → more < 16 → block_place block (entry_at function) ≡ block_place other (entry_at more) → (block ≡ other) × (function ≡ more)
+pub entries_apart : (block function other more : ℕ) → block < 64 → function < 16 → other < 64 → more < 16 → block_place block (image_entry_at function) ≡ block_place other (image_entry_at more) → (block ≡ other) × (function ≡ more)
 entries_apart block function other more big few big_too few_too same =
-    let both = same_block block (entry_at function) other (entry_at more) (sym (entry_kind block function big few) ∙ ap kind_at same ∙ entry_kind other more big_too few_too) in
+    let both = same_block block (image_entry_at function) other (image_entry_at more) (sym (entry_kind block function big few) ∙ ap kind_at same ∙ entry_kind other more big_too few_too) in
     (both.0, entry_back function more both.1)
 
 -- no entry word is a decision
-pub entry_off : (block function bp other more : ℕ) → 9 ≤ block → block < 64 → function < 16 → bp < 2 → IsForInstances other → more < 16 → block_place block (entry_at function) ≡ breakpoint_place bp other more → ⊥
+pub entry_off : (block function bp other more : ℕ) → 9 ≤ block → block < 64 → function < 16 → bp < 2 → IsForInstances other → more < 16 → block_place block (image_entry_at function) ≡ breakpoint_place bp other more → ⊥
 entry_off block function bp other more low big few fits for few_too same =
-    let both = same_block block (entry_at function) (3 + bp) (breakpoint_at other more) (sym (entry_kind block function big few) ∙ ap kind_at same ∙ decision_kind bp other more fits for few_too) in
+    let both = same_block block (image_entry_at function) (3 + bp) (breakpoint_at other more) (sym (entry_kind block function big few) ∙ ap kind_at same ∙ decision_kind bp other more fits for few_too) in
     let index : block ≡ 3 + bp = both.0 in
     omega (arith, low, fits, index)
 

@@ -10,7 +10,7 @@ use Rattle.area_core.specs.declared.table.KeptArea.{KeptArea}
 use Rattle.area_core.specs.declared.table.Published.{Published}
 use Rattle.area_core.specs.Map.{kind_at, word_at}
 use Rattle.area_core.specs.Blocks.{Among, IsForInstances, KeptApart}
-use Rattle.area_core.specs.Generations.{is_traced, traced_word}
+use Rattle.area_core.specs.Generations.{is_traced_function, traced_word}
 use Rattle.area_core.specs.Stores.{entry_word}
 use Rattle.area_core.proofs.Places.{word_here, word_there}
 use Rattle.shared_words.specs.declared.view.WriterView.{WriterView}
@@ -41,10 +41,10 @@ set_at words place value all within = record {
 -- ---- tests
 
 -- the word that stands for whether a function is traced
-pub traced_is : (p : Published) (serial function : ℕ) (on : Bool) → is_traced p serial function ≡ on → traced_word p serial function ≡ entry_word on
+pub traced_is : (p : Published) (serial function : ℕ) (on : Bool) → is_traced_function p serial function ≡ on → traced_word p serial function ≡ entry_word on
 traced_is p serial function on is = ap entry_word is
 
-pub traced_alike : (p q : Published) (serial function : ℕ) → is_traced p serial function ≡ is_traced q serial function → traced_word p serial function ≡ traced_word q serial function
+pub traced_alike : (p q : Published) (serial function : ℕ) → is_traced_function p serial function ≡ is_traced_function q serial function → traced_word p serial function ≡ traced_word q serial function
 traced_alike p q serial function is = ap entry_word is
 
 -- a choice where both numbers are these

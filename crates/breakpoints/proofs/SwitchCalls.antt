@@ -8,10 +8,10 @@ use Rattle.term_core.specs.declared.generation.Generation.{Generation}
 use Rattle.area_core.specs.declared.table.Published.{Published}
 use Rattle.area_core.specs.Map.{word_at}
 use Rattle.area_core.specs.Blocks.{Among}
-use Rattle.area_core.specs.Generations.{is_traced}
+use Rattle.area_core.specs.Generations.{is_traced_function}
 use Rattle.area_core.specs.Step.{to_publish}
 use Rattle.shared_words.specs.declared.view.WriterView.{WriterView}
-use Rattle.shared_words.specs.Views.{newest}
+use Rattle.shared_words.specs.Views.{newest_number}
 use Rattle.shared_words.specs.Kinds.{counter_kept}
 use Rattle.shared_words.specs.Publishing.{MayPublish, with_next}
 use Rattle.progress_words.specs.declared.roots.RootParts.{RootParts}
@@ -89,7 +89,7 @@ module _ (Served : Published → Type 0) (x : Patch) (old w : WriterView) (need 
       let here : MayPublish Served w (switched_over w state areas) = may_publish Served x w state areas may_w can_w own_w staged_w ready_w root.fits w.pairs w.counter in
       subst (λ (z : WriterView × Published). MayPublish Served z.0 z.1) (λ i. (sym same i, sym next_is i)) here
 
-  module _ (mid new : WriterView) (next : ℕ) (published : mid ≡ with_next (to_publish parts.code ((parts.bp + 1) % 2) parts.term state areas) now) (last : HasLoadedCounter mid new) (taken : HasTaken new (newest mid.published) next) where
+  module _ (mid new : WriterView) (next : ℕ) (published : mid ≡ with_next (to_publish parts.code ((parts.bp + 1) % 2) parts.term state areas) now) (last : HasLoadedCounter mid new) (taken : HasTaken new (newest_number mid.published) next) where
     mid_is : mid ≡ with_next (switched_over w state areas) w
     mid_is = published ∙ (λ i. with_next (next_is i) (same i))
 
@@ -99,15 +99,15 @@ module _ (Served : Published → Type 0) (x : Patch) (old w : WriterView) (need 
     can_m : IsPatchable mid x.at
     can_m = subst (λ (v : WriterView). IsPatchable v x.at) (sym mid_is) (switched_patchable Served x w state areas may_w can_w own_w staged_w ready_w root.fits)
 
-    traced_m : is_traced (newest_of mid) x.at.area.serial x.at.function ≡ x.on
-    traced_m = ap (λ (v : WriterView). is_traced (newest_of v) x.at.area.serial x.at.function) mid_is ∙ switched_traced Served x w state areas may_w can_w own_w staged_w ready_w root.fits
+    traced_m : is_traced_function (newest_of mid) x.at.area.serial x.at.function ≡ x.on
+    traced_m = ap (λ (v : WriterView). is_traced_function (newest_of v) x.at.area.serial x.at.function) mid_is ∙ switched_traced Served x w state areas may_w can_w own_w staged_w ready_w root.fits
 
     pub switch_stands : PhaseStands x.at x.on (IsSwitched next) new
     switch_stands = (
       record {
         patchable = patchable_still mid new (counted_leaves mid new last) x.at can_m;
         indices = indices_still mid new (counted_leaves mid new last) (Some x.at) own_m;
-        taken = subst (λ (ps : List Published). HasTaken new (newest ps) next) (sym (counted_leaves mid new last).published) taken;
+        taken = subst (λ (ps : List Published). HasTaken new (newest_number ps) next) (sym (counted_leaves mid new last).published) taken;
       },
       traced_still mid new (counted_leaves mid new last) x.at x.on traced_m,
     )

@@ -9,7 +9,7 @@ use Rattle.area_core.specs.declared.table.KeptArea.{KeptArea}
 use Rattle.area_core.specs.declared.table.Published.{Published}
 use Rattle.area_core.specs.Map.{breakpoint_place, word_at}
 use Rattle.area_core.specs.Blocks.{Among, AreaStands, BreakpointsStand, EntriesStand, KeptApart, RootFits, UsedAreKept}
-use Rattle.area_core.specs.Generations.{has_area, has_image, is_instance, is_kept_as, is_key_area, is_traced, traced_word}
+use Rattle.area_core.specs.Generations.{has_area, has_image, is_instance, is_kept_as, is_key_area, is_traced_function, traced_word}
 use Rattle.area_core.specs.Roots.{fresh_areas}
 use Rattle.area_core.proofs.Tests.{passed_by, three_hold}
 use Rattle.shared_words.specs.declared.view.WriterView.{WriterView}
@@ -37,11 +37,11 @@ module _ (Served : Published → Type 0) (x : Patch) (w : WriterView) (state : G
   listed : Among p.areas x.at.area
   listed = subst (Among p.areas) can.is (may.areas_go_on.kept can.area (kept_before w p can.area can.kept)).listed
 
-  traced_here : is_traced p x.at.area.serial x.at.function ≡ x.on
-  traced_here = may.traces x.at.area.serial x.at.function ∙ chosen x.at.area.serial x.at.area.serial x.at.function x.at.function x.on (is_traced (newest_of w) x.at.area.serial x.at.function) refl refl
+  traced_here : is_traced_function p x.at.area.serial x.at.function ≡ x.on
+  traced_here = may.traces x.at.area.serial x.at.function ∙ chosen x.at.area.serial x.at.area.serial x.at.function x.at.function x.on (is_traced_function (newest_of w) x.at.area.serial x.at.function) refl refl
 
-  traced_else : (serial function : ℕ) → (serial ≡ x.at.area.serial → function ≡ x.at.function → ⊥) → is_traced p serial function ≡ is_traced (newest_of w) serial function
-  traced_else serial function differ = may.traces serial function ∙ passed serial x.at.area.serial function x.at.function x.on (is_traced (newest_of w) serial function) differ
+  traced_else : (serial function : ℕ) → (serial ≡ x.at.area.serial → function ≡ x.at.function → ⊥) → is_traced_function p serial function ≡ is_traced_function (newest_of w) serial function
+  traced_else serial function differ = may.traces serial function ∙ passed serial x.at.area.serial function x.at.function x.on (is_traced_function (newest_of w) serial function) differ
 
   -- ---- the areas
 
@@ -90,17 +90,17 @@ module _ (Served : Published → Type 0) (x : Patch) (w : WriterView) (state : G
         | inr differ ↦ stands_else a function among instance few (λ same _. differ same)
       ]
 
-  untraced_here : (k : KeptArea) (function : ℕ) → Among w.kept k → k.area.serial ≡ x.at.area.serial → function ≡ x.at.function → word_at w.words (entry_place x.at) ≡ 0 → is_traced p k.area.serial function ≡ false
+  untraced_here : (k : KeptArea) (function : ℕ) → Among w.kept k → k.area.serial ≡ x.at.area.serial → function ≡ x.at.function → word_at w.words (entry_place x.at) ≡ 0 → is_traced_function p k.area.serial function ≡ false
   untraced_here k function among same also none =
-      elim (cases_Bool x.on) as (λ _. is_traced p k.area.serial function ≡ false) [
+      elim (cases_Bool x.on) as (λ _. is_traced_function p k.area.serial function ≡ false) [
         | inl on ↦ absurd (ready on none)
-        | inr off ↦ (λ i. is_traced p (same i) (also i)) ∙ traced_here ∙ off
+        | inr off ↦ (λ i. is_traced_function p (same i) (also i)) ∙ traced_here ∙ off
       ]
 
   entries_kept : (k : KeptArea) → Among w.kept k → EntriesStand (word_at w.words) k p
   entries_kept k among function has none =
-      elim (cases_eq k.area.serial x.at.area.serial) as (λ _. is_traced p k.area.serial function ≡ false) [
-        | inl same ↦ elim (cases_eq function x.at.function) as (λ _. is_traced p k.area.serial function ≡ false) [
+      elim (cases_eq k.area.serial x.at.area.serial) as (λ _. is_traced_function p k.area.serial function ≡ false) [
+        | inl same ↦ elim (cases_eq function x.at.function) as (λ _. is_traced_function p k.area.serial function ≡ false) [
           | inl also ↦
               let is : k ≡ can.area = same_serial w.kept may.apart k can.area among can.kept (same ∙ sym (ap (λ (a : AreaRef). a.serial) can.is)) in
               let area : k.area ≡ x.at.area = ap (λ (y : KeptArea). y.area) is ∙ can.is in
@@ -180,5 +180,5 @@ module _ (Served : Published → Type 0) (x : Patch) (w : WriterView) (state : G
     instance = subst (λ (q : Published). is_instance q x.at.area.serial ≡ true) (sym (newest_is w p)) may.patched;
   }
 
-  pub switched_traced : is_traced (newest_of (with_next p w)) x.at.area.serial x.at.function ≡ x.on
-  switched_traced = ap (λ (q : Published). is_traced q x.at.area.serial x.at.function) (newest_is w p) ∙ traced_here
+  pub switched_traced : is_traced_function (newest_of (with_next p w)) x.at.area.serial x.at.function ≡ x.on
+  switched_traced = ap (λ (q : Published). is_traced_function q x.at.area.serial x.at.function) (newest_is w p) ∙ traced_here

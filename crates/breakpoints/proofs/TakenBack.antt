@@ -7,7 +7,7 @@ use Rattle.term_core.specs.declared.area.AreaRef.{AreaRef}
 use Rattle.term_core.specs.declared.area.CodeRef.{CodeRef}
 use Rattle.area_core.specs.declared.map.WordKind.TheVariants.{InBlock}
 use Rattle.area_core.specs.declared.table.Published.{Published}
-use Rattle.area_core.specs.Generations.{is_instance, is_traced}
+use Rattle.area_core.specs.Generations.{is_instance, is_traced_function}
 use Rattle.area_core.specs.Map.{breakpoint_at, breakpoint_place, word_at}
 use Rattle.area_core.specs.Blocks.{IsForInstances}
 use Rattle.area_core.specs.Readers.{has_instance_in, is_read_under, reaches_block, reads_in_block}
@@ -16,7 +16,7 @@ use Rattle.area_core.specs.Stores.{entry_word}
 use Rattle.area_core.proofs.Tests.{some_passes}
 use Rattle.shared_words.specs.declared.view.View.TheVariants.{Writer}
 use Rattle.shared_words.specs.declared.view.WriterView.{WriterView}
-use Rattle.shared_words.specs.Views.{newest}
+use Rattle.shared_words.specs.Views.{newest_number}
 use Rattle.shared_words.specs.Publishing.{MayLoadWord, with_word}
 use Rattle.shared_words.proofs.ShownMembers.{there_is}
 use Rattle.progress_words.specs.Roots.{newest_of}
@@ -54,17 +54,17 @@ module _ (w : WriterView) (at : CodeRef) (can : IsPatchable w at) (own : AreIndi
       let bp = active_breakpoints w in
       let read : is_read_under (InBlock (3 + bp) place) (Some (newest_of w)) ≡ true =
       reads_active (newest_of w) bp place own.fits refl (ap (has_instance_in (newest_of w)) (back at.area.block at.function for.0.first for.1) ∙ instance_here) in
-      (λ i. is_read_under (decision_kind bp at.area.block at.function own.fits for.0 for.1 i) (there_is w.published (newest w.published) opening_published (omega (arith, some)) i)) ∙ read
+      (λ i. is_read_under (decision_kind bp at.area.block at.function own.fits for.0 for.1 i) (there_is w.published (newest_number w.published) opening_published (omega (arith, some)) i)) ∙ read
 
   one_is : (b : Bool) → (entry_word b == 1) ≡ b
   one_is true = refl
   one_is false = refl
 
   -- and it says whether the newest generation traces the function
-  pub says_traced : (found : ℕ) → found ≡ word_at w.words (breakpoint_place (active_breakpoints w) at.area.block at.function) → (found == 1) ≡ is_traced (newest_of w) at.area.serial at.function
+  pub says_traced : (found : ℕ) → found ≡ word_at w.words (breakpoint_place (active_breakpoints w) at.area.block at.function) → (found == 1) ≡ is_traced_function (newest_of w) at.area.serial at.function
   says_traced found is =
-      ap (λ (n : ℕ). n == 1) (is ∙ own.stands at.area can.listed can.instance at.function for.1 ∙ traced_is (newest_of w) at.area.serial at.function (is_traced (newest_of w) at.area.serial at.function) refl)
-      ∙ one_is (is_traced (newest_of w) at.area.serial at.function)
+      ap (λ (n : ℕ). n == 1) (is ∙ own.stands at.area can.listed can.instance at.function for.1 ∙ traced_is (newest_of w) at.area.serial at.function (is_traced_function (newest_of w) at.area.serial at.function) refl)
+      ∙ one_is (is_traced_function (newest_of w) at.area.serial at.function)
 
   -- the store of a decision changes words alone
   pub decided_words : (on : Bool) (new : WriterView) → new ≡ with_word (decision_place (staging_breakpoints w) at) (entry_word on) w → new ≡ record w { words = new.words }

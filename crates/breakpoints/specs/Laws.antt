@@ -6,8 +6,8 @@ use Rattle.area_core.specs.declared.map.TheConstants.{AREAS_START, BREAKPOINT_IN
 use Rattle.area_core.specs.declared.table.KeptArea.{KeptArea}
 use Rattle.area_core.specs.declared.table.Published.{Published}
 use Rattle.area_core.specs.Blocks.{Among, BreakpointsStand, EntriesStand, FitsBlock, InstancesPlaced, IsForInstances, KeptApart}
-use Rattle.area_core.specs.Generations.{has_function, is_instance, is_traced}
-use Rattle.area_core.specs.Map.{block_place, breakpoint_place, entry_at, word_at}
+use Rattle.area_core.specs.Generations.{has_function, is_instance, is_traced_function}
+use Rattle.area_core.specs.Map.{block_place, breakpoint_place, image_entry_at, word_at}
 use Rattle.area_core.specs.Roots.{fresh_areas}
 use Rattle.area_core.specs.Step.{opening_published}
 use Rattle.shared_words.specs.declared.view.WriterView.{WriterView}
@@ -38,7 +38,7 @@ pub record LeavesDecisions (old new : WriterView) : Type 0 where
   pub long : length new.words ≡ length old.words
   pub published : new.published ≡ old.published
   pub decisions : (block function : ℕ) → IsForInstances block → function < FUNCTIONS → KeepsDecision old new block function
-  pub entries : (k : KeptArea) (function : ℕ) → Among new.kept k → IsTrue (has_function k function) → word_at new.words (block_place k.area.block (entry_at function)) ≡ word_at old.words (block_place k.area.block (entry_at function))
+  pub entries : (k : KeptArea) (function : ℕ) → Among new.kept k → IsTrue (has_function k function) → word_at new.words (block_place k.area.block (image_entry_at function)) ≡ word_at old.words (block_place k.area.block (image_entry_at function))
   pub kept : (k : KeptArea) → Among new.kept k → Among old.kept k
   pub dropped : (k : KeptArea) → Among old.kept k → Among new.kept k ⊎ ((IsForInstances k.area.block → HasNoDecisions new k.area.block) × (is_instance (newest_of old) k.area.serial ≡ false))
   pub more : (pair : Retirement) → Among old.pairs pair → Among new.pairs pair
@@ -57,13 +57,13 @@ pub record KeepsTraces (w : WriterView) (p : Published) : Type 0 where
   -- an instance that the newest generation has too
   pub instances : (a : AreaRef) → Among p.areas a → IsTrue (is_instance p a.serial) → (Among (newest_of w).areas a × IsTrue (is_instance (newest_of w) a.serial)) ⊎ IsUnkept w a.block
   -- what it traces the newest one traces
-  pub fewer : (serial function : ℕ) → IsTrue (is_traced p serial function) → IsTrue (is_traced (newest_of w) serial function)
-  pub same : (serial function : ℕ) → IsTrue (is_instance p serial) → is_traced p serial function ≡ is_traced (newest_of w) serial function
+  pub fewer : (serial function : ℕ) → IsTrue (is_traced_function p serial function) → IsTrue (is_traced_function (newest_of w) serial function)
+  pub same : (serial function : ℕ) → IsTrue (is_instance p serial) → is_traced_function p serial function ≡ is_traced_function (newest_of w) serial function
   -- each area that is kept then has a block of its own with room for it, and the new ones are not traced
   pub fresh : (k : KeptArea) → Among (fresh_areas w.kept p) k → FitsBlock k
   pub apart : KeptApart (kept_next w p)
-  pub untraced : (k : KeptArea) (function : ℕ) → Among (fresh_areas w.kept p) k → is_traced p k.area.serial function ≡ false
-  pub unplaced : (a : AreaRef) (function : ℕ) → IsUnkept w a.block → Among p.areas a → IsTrue (is_instance p a.serial) → is_traced p a.serial function ≡ false
+  pub untraced : (k : KeptArea) (function : ℕ) → Among (fresh_areas w.kept p) k → is_traced_function p k.area.serial function ≡ false
+  pub unplaced : (a : AreaRef) (function : ℕ) → IsUnkept w a.block → Among p.areas a → IsTrue (is_instance p a.serial) → is_traced_function p a.serial function ≡ false
 
 -- the words stand for it, and the indices are at rest once it is published
 pub record TracesStand (w : WriterView) (p : Published) : Type 0 where

@@ -5,12 +5,12 @@ use Rattle.prgr_core.specs.declared.member.Retirement.{Retirement}
 use Rattle.term_core.specs.declared.area.CodeRef.{CodeRef}
 use Rattle.area_core.specs.declared.map.TheConstants.{BREAKPOINT_INDICES}
 use Rattle.area_core.specs.declared.table.KeptArea.{KeptArea}
-use Rattle.area_core.specs.Generations.{has_function, is_instance, is_traced}
-use Rattle.area_core.specs.Map.{block_place, entry_at, word_at}
+use Rattle.area_core.specs.Generations.{has_function, is_instance, is_traced_function}
+use Rattle.area_core.specs.Map.{block_place, image_entry_at, word_at}
 use Rattle.area_core.specs.Blocks.{Among}
 use Rattle.area_core.specs.Stores.{entry_word}
 use Rattle.shared_words.specs.declared.view.WriterView.{WriterView}
-use Rattle.shared_words.specs.Views.{newest}
+use Rattle.shared_words.specs.Views.{newest_number}
 use Rattle.progress_words.specs.Needs.{HasTaken}
 use Rattle.progress_words.specs.Roots.{newest_of}
 use Rattle.breakpoints.specs.declared.patch.Patch.{Patch}
@@ -31,7 +31,7 @@ pub record IsPatchable (w : WriterView) (at : CodeRef) : Type 0 where
 
 -- the place of its entry word
 abbrev pub entry_place : CodeRef → ℕ
-entry_place at = block_place at.area.block (entry_at at.function)
+entry_place at = block_place at.area.block (image_entry_at at.function)
 
 -- ---- the phases
 
@@ -39,7 +39,7 @@ entry_place at = block_place at.area.block (entry_at at.function)
 pub record IsPatching (at : CodeRef) (w : WriterView) (need : ℕ) : Type 0 where
   pub patchable : IsPatchable w at
   pub indices : AreIndices (Some at) w
-  pub taken : HasTaken w (newest w.published) need
+  pub taken : HasTaken w (newest_number w.published) need
 
 -- the decision is staged in the index that no thread reads
 pub record IsDecisionStaged (at : CodeRef) (on : Bool) (w : WriterView) : Type 0 where
@@ -53,9 +53,9 @@ PhaseStands at on (Staged need) w = IsPatching at w need × IsDecisionStaged at 
 -- the entry word leads calls to the indices, before any generation traces the function
 PhaseStands at on (Entered need) w = IsPatching at w need × IsDecisionStaged at on w × (on ≡ true) × (word_at w.words (entry_place at) ≢ 0)
 -- threads may still read the index that was active before
-PhaseStands at on (Published need) w = IsPatching at w need × (is_traced (newest_of w) at.area.serial at.function ≡ on)
+PhaseStands at on (Published need) w = IsPatching at w need × (is_traced_function (newest_of w) at.area.serial at.function ≡ on)
 -- the entry word leads calls past the indices, and no generation that may be read traces the function
-PhaseStands at on (Restored need) w = IsPatching at w need × (is_traced (newest_of w) at.area.serial at.function ≡ on) × (on ≡ false) × IsStagingUnread w
+PhaseStands at on (Restored need) w = IsPatching at w need × (is_traced_function (newest_of w) at.area.serial at.function ≡ on) × (on ≡ false) × IsStagingUnread w
 PhaseStands at on Finished w = BreakpointsRest w
 
 -- the patch is at its phase

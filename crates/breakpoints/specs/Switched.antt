@@ -7,9 +7,9 @@ use Rattle.term_core.specs.declared.area.CodeRef.{CodeRef}
 use Rattle.term_core.specs.declared.generation.Generation.{Generation}
 use Rattle.area_core.specs.declared.table.KeptArea.{KeptArea}
 use Rattle.area_core.specs.declared.table.Published.{Published}
-use Rattle.area_core.specs.Generations.{is_instance, is_traced}
+use Rattle.area_core.specs.Generations.{is_instance, is_traced_function}
 use Rattle.area_core.specs.Map.{word_at}
-use Rattle.area_core.specs.Blocks.{Among, CodeStands, DoomTells, InstancesPlaced, KeptApart, RetireTells, UsedAreKept, term_words}
+use Rattle.area_core.specs.Blocks.{Among, CodeStands, DoomTells, InstancesPlaced, KeptApart, RetireTells, UsedAreKept, term_blocks_words}
 use Rattle.area_core.specs.Roots.{fresh_areas}
 use Rattle.area_core.specs.Step.{to_publish}
 use Rattle.area_core.specs.Terms.{TermsStand}
@@ -32,7 +32,7 @@ switched_over w state areas = to_publish (newest_of w).root.code (staging_breakp
 -- a generation traces what another one traces, but that this function is traced or not
 abbrev pub TracesWith : CodeRef → Bool → Published → Published → Type 0
 TracesWith at on p q =
-    (serial function : ℕ) → is_traced q serial function ≡ (if (serial == at.area.serial) && (function == at.function) then on else is_traced p serial function)
+    (serial function : ℕ) → is_traced_function q serial function ≡ (if (serial == at.area.serial) && (function == at.function) then on else is_traced_function p serial function)
 
 -- it may be published: it traces so, it has the instances of the newest generation and no new area, and the other words stand for it
 pub record MaySwitch (Served : Published → Type 0) (x : Patch) (w : WriterView) (p : Published) : Type 0 where
@@ -42,7 +42,7 @@ pub record MaySwitch (Served : Published → Type 0) (x : Patch) (w : WriterView
   pub areas_go_on : AreasGoOn w p
   pub placed : InstancesPlaced p
   pub code : CodeStands (word_at w.words) p
-  pub terms : TermsStand (term_words (word_at w.words) p.root) p
+  pub terms : TermsStand (term_blocks_words (word_at w.words) p.root) p
   pub used : UsedAreKept w.kept p
   pub none_fresh : fresh_areas w.kept p ≡ []
   pub apart : KeptApart w.kept

@@ -1,7 +1,7 @@
 //! The call by which a patch that has published nothing is taken back.
 
 ghost use Rattle.std.specs.Prelude.{◌≡◌, Some};
-ghost use Rattle.area_core.specs.Generations.{is_traced};
+ghost use Rattle.area_core.specs.Generations.{is_traced_function};
 ghost use Rattle.progress_words.specs.Roots.{newest_of};
 ghost use Rattle.progress_words.specs.Tokens.{written_by, IsSameWriter, IsWriterOf};
 ghost use Rattle.breakpoints.specs.Indices.{AreIndices, BreakpointsRest, IsStagingUnread};
@@ -22,7 +22,7 @@ fn active_decision<N: Served>(shared: &Shared<N>, writer: &mut Writer, at: CodeR
     ensures token { IsWriterOf shared.now.table.shared.table_id shared.now.table.shared.key writer.new }
     ensures same { IsSameWriter writer.old writer.new }
     ensures view { written_by writer.new ≡ written_by writer.old }
-    ensures value { result ≡ is_traced (newest_of (written_by writer.old)) at.area.serial at.function }
+    ensures value { result ≡ is_traced_function (newest_of (written_by writer.old)) at.area.serial at.function }
 {
     let root = newest_root(shared, writer);
     let word = shared.load_word(writer, decision_word(root.bp, at.area.block, at.function));

@@ -2,7 +2,7 @@
 
 ghost use Rattle.std.specs.Prelude.{◌≡◌, ◌<◌, IsTrue, false, length};
 ghost use Rattle.prgr_core.specs.Members.{is_value};
-ghost use Rattle.area_core.specs.Generations.{is_retired, is_traced, tells};
+ghost use Rattle.area_core.specs.Generations.{is_retired_area, is_traced_function, tells};
 ghost use Rattle.shared_words.specs.declared.view.View.TheVariants as views;
 ghost use Rattle.shared_words.specs.Processes.{held_by_view};
 ghost use Rattle.shared_words.specs.Publishing.{MayLoadWord};
@@ -35,7 +35,7 @@ fn entry_of<N: Served>(shared: &Shared<N>, member: &mut Member, at: CodeRef) -> 
     requires may { MayDecide member.old.root (view_of member.old) at }
     ensures token { IsMemberSeat shared.now.table.shared.table_id member.new.number member.new.seat }
     ensures read { HasLookedUp member.old member.new }
-    ensures untraced { result ≡ 0 → is_traced (held_by_view (view_of member.old)) at.area.serial at.function ≡ false }
+    ensures untraced { result ≡ 0 → is_traced_function (held_by_view (view_of member.old)) at.area.serial at.function ≡ false }
 {
     load(shared, member, entry_word_at(at.area.block, at.function))
 }
@@ -53,7 +53,7 @@ fn retired_in<N: Served>(shared: &Shared<N>, member: &mut Member, at: CodeRef) -
     requires may { MayDecide member.old.root (view_of member.old) at }
     ensures token { IsMemberSeat shared.now.table.shared.table_id member.new.number member.new.seat }
     ensures read { HasLookedUp member.old member.new }
-    ensures value { result ≡ is_retired (held_by_view (view_of member.old)) at.area.serial }
+    ensures value { result ≡ is_retired_area (held_by_view (view_of member.old)) at.area.serial }
 {
     let generation = member.root() / GENERATION_UNIT;
     let word = load(shared, member, retire_word(at.area.block));
@@ -65,10 +65,10 @@ fn retired_in<N: Served>(shared: &Shared<N>, member: &mut Member, at: CodeRef) -
 fn decided_in<N: Served>(shared: &Shared<N>, member: &mut Member, at: CodeRef) -> bool
     requires token { IsMemberSeat shared.now.table.shared.table_id member.old.number member.old.seat }
     requires may { MayDecide member.old.root (view_of member.old) at }
-    requires live { is_retired (held_by_view (view_of member.old)) at.area.serial ≡ false }
+    requires live { is_retired_area (held_by_view (view_of member.old)) at.area.serial ≡ false }
     ensures token { IsMemberSeat shared.now.table.shared.table_id member.new.number member.new.seat }
     ensures read { HasLookedUp member.old member.new }
-    ensures value { result ≡ is_traced (held_by_view (view_of member.old)) at.area.serial at.function }
+    ensures value { result ≡ is_traced_function (held_by_view (view_of member.old)) at.area.serial at.function }
 {
     let index = (member.root() / CODE_UNIT % BREAKPOINT_UNIT) as u32;
     let word = load(
@@ -89,7 +89,7 @@ pub fn decision<N: Served>(shared: &Shared<N>, member: &mut Member, at: CodeRef)
     requires may { MayDecide member.old.root (view_of member.old) at }
     ensures token { IsMemberSeat shared.now.table.shared.table_id member.new.number member.new.seat }
     ensures read { HasLookedUp member.old member.new }
-    ensures value { result ≡ is_traced (held_by_view (view_of member.old)) at.area.serial at.function }
+    ensures value { result ≡ is_traced_function (held_by_view (view_of member.old)) at.area.serial at.function }
 {
     let entry = entry_of(shared, member, at);
     if entry == 0 {

@@ -3,7 +3,7 @@
 ghost use Rattle.std.specs.Prelude.{◌≡◌, ◌<◌};
 ghost use Rattle.area_core.specs.declared.map.TheConstants.{BIG_BLOCKS, BLOCKS};
 ghost use Rattle.area_core.specs.Blocks.{IsForInstances};
-ghost use Rattle.area_core.specs.Map.{block_place, breakpoint_place, entry_at, retire_place};
+ghost use Rattle.area_core.specs.Map.{block_place, breakpoint_place, image_entry_at, retire_place};
 ghost use Rattle.area_core.specs.Stores.{entry_word};
 
 /// How many breakpoint indices there are.
@@ -65,7 +65,7 @@ pub fn decision_value(on: bool) -> u64
 pub fn entry_word_at(block: u32, function: u32) -> u32
     requires block { block < BIG_BLOCKS }
     requires function { function < FUNCTIONS }
-    ensures { result ≡ block_place block (entry_at function) }
+    ensures { result ≡ block_place block (image_entry_at function) }
 {
     BLOCKS_START + block * BLOCK_WORDS + function * ROW_WORDS + FIRST_ENTRY
 }

@@ -11,7 +11,7 @@ use Rattle.server_core.specs.declared.command.Reply.{Reply}
 use Rattle.server_core.specs.declared.command.Reply.TheVariants as replies
 use Rattle.server_core.specs.Areas.{numbered}
 use Rattle.server_core.specs.CommandTable.{Outcome, answered, published, unchanged, with_all, with_complex, with_deleted, with_dropped, with_erased, with_immediate, with_purged, with_put, with_released, with_trace, without_number}
-use Rattle.server_core.specs.Decided.{IsNoRelease, made, with_doomed}
+use Rattle.server_core.specs.Decided.{IsNoRelease, change_made, with_doomed}
 use Rattle.server_core.specs.Rooms.{with_currents}
 use Rattle.server_core.specs.ServerState.{Entry, ServerState, entry_of, key_area}
 use Rattle.server_core.proofs.CurrentCode.{names_of_modules}
@@ -104,7 +104,7 @@ pub later_published : (s : ServerState) (n : ℕ) (t u : ServerState) (reply : R
 later_published s n t u reply is = ap (λ v. published v reply) is
 
 -- what each change but a release makes
-pub later_made : (s : ServerState) (n : ℕ) (change : Change) → IsNoRelease change → made (with_released s n) change ≡ later s n (made s change)
+pub later_made : (s : ServerState) (n : ℕ) (change : Change) → IsNoRelease change → change_made (with_released s n) change ≡ later s n (change_made s change)
 later_made s n (Nothing reply) other = later_unchanged s n reply
 later_made s n (BringIn generation modules areas versions) other = later_published s n (with_all s modules.items) (with_all (with_released s n) modules.items) replies.Ok (later_all s n modules.items)
 later_made s n (MakeOld generation name) other = later_published s n (with_deleted s name.0) (with_deleted (with_released s n) name.0) replies.True (later_deleted s n name.0)

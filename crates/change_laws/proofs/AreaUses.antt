@@ -11,7 +11,7 @@ use Rattle.server_core.specs.ServerState.{IsOldCode, Persistent, ServerState, cu
 use Rattle.server_core.proofs.KeyChanges.{IsAreaOf, area_of_key, in_option, persistent_erased, persistent_put}
 use Rattle.server_core.proofs.Loads.{with_all_parts}
 use Rattle.server_core.proofs.Soundness.{held_before, held_later, some_same}
-use Rattle.change_laws.specs.Changes.{state_after}
+use Rattle.change_laws.specs.Changes.{changed_state}
 use Rattle.change_laws.specs.Uses.{IsHeldArea, IsUsed}
 use Rattle.change_laws.proofs.LoadedCode.{no_serial}
 use Rattle.change_laws.proofs.VersionUses.{IsChosen, StoodOr, WasVersion, current_all, current_stood, old_chosen, old_deleted, old_purged}
@@ -81,18 +81,18 @@ with_keys_used : (s t : ServerState) (serial : ℕ) → ((name : ℕ) → curren
 with_keys_used s t serial current old held used =
     by_use s t serial (λ name e. inl (inl (name, sym (current name) ∙ e))) (λ name e. inl (inr (inl (name, sym (old name) ∙ e)))) held used
 
-pub used_stood : (s : ServerState) (change : Change) (serial : ℕ) → IsUsed (state_after s change) serial → UsedOr s serial
+pub used_stood : (s : ServerState) (change : Change) (serial : ℕ) → IsUsed (changed_state s change) serial → UsedOr s serial
 used_stood s (BringIn generation modules areas versions) serial used = used_all s modules.items serial used
-used_stood s (MakeOld generation name) serial used = with_versions_used s (state_after s (MakeOld generation name)) serial (λ n e. current_stood s (MakeOld generation name) n serial e) (λ n e. old_deleted s name.0 n serial e) (λ key. refl) used
-used_stood s (DropOld generation name old says retired) serial used = with_versions_used s (state_after s (DropOld generation name old says retired)) serial (λ n e. current_stood s (DropOld generation name old says retired) n serial e) (λ n e. inr (old_purged s name.0 old n serial e)) (λ key. refl) used
+used_stood s (MakeOld generation name) serial used = with_versions_used s (changed_state s (MakeOld generation name)) serial (λ n e. current_stood s (MakeOld generation name) n serial e) (λ n e. old_deleted s name.0 n serial e) (λ key. refl) used
+used_stood s (DropOld generation name old says retired) serial used = with_versions_used s (changed_state s (DropOld generation name old says retired)) serial (λ n e. current_stood s (DropOld generation name old says retired) n serial e) (λ n e. inr (old_purged s name.0 old n serial e)) (λ key. refl) used
 used_stood s (HoldWord generation key term keys retired) serial used =
-    with_keys_used s (state_after s (HoldWord generation key term keys retired)) serial (λ name. refl) (λ name. refl)
+    with_keys_used s (changed_state s (HoldWord generation key term keys retired)) serial (λ name. refl) (λ name. refl)
     (λ k e. from_put s (record { key = key.0; term = plain term; area = None }) k serial (λ n gone. no_serial n gone) e) used
 used_stood s (HoldArea generation key term stored areas keys retired) serial used =
-    with_keys_used s (state_after s (HoldArea generation key term stored areas keys retired)) serial (λ name. refl) (λ name. refl)
+    with_keys_used s (changed_state s (HoldArea generation key term stored areas keys retired)) serial (λ name. refl) (λ name. refl)
     (λ k e. from_put s (record { key = key.0; term = plain term; area = Some s.next_serial }) k serial (λ n is. let same = some_same s.next_serial n is in omega (arith, same)) e) used
 used_stood s (Forget generation key retired) serial used =
-    with_keys_used s (state_after s (Forget generation key retired)) serial (λ name. refl) (λ name. refl) (λ k e. from_erase s key.0 k serial e) used
+    with_keys_used s (changed_state s (Forget generation key retired)) serial (λ name. refl) (λ name. refl) (λ k e. from_erase s key.0 k serial e) used
 used_stood s change serial used = inl used
 
 -- ---- areas that are retired
@@ -111,7 +111,7 @@ with_old : (s : ServerState) (name old serial : ℕ) → old_of s name ≡ Some 
 with_old s name old serial was (inl h) = inl h
 with_old s name old serial was (inr same) = inr (inl (name, was ∙ ap Some same))
 
-pub retired_stood : (s : ServerState) (change : Change) (serial : ℕ) → Fits s change → IsTrue (is_retired (state_after s change) serial) → RetiredOr s serial
+pub retired_stood : (s : ServerState) (change : Change) (serial : ℕ) → Fits s change → IsTrue (is_retired (changed_state s change) serial) → RetiredOr s serial
 retired_stood s (BringIn generation modules areas versions) serial fits h = inl (sym (ap (λ (t : ServerState). is_retired t serial) (with_all_parts s modules.items)) ∙ h)
 retired_stood s (DropOld generation name old says retired) serial fits h = with_old s name.0 old serial fits.1.old (held_later s.retired old serial h)
 retired_stood s (HoldWord generation key term keys retired) serial fits h = with_former s key.0 serial (in_option (key_area s key.0) s.retired serial h)

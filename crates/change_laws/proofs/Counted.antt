@@ -17,7 +17,7 @@ use Rattle.server_core.proofs.CurrentCode.{live_after, live_dropped, live_made_o
 use Rattle.server_core.proofs.KeyEntries.{areas_put, counted}
 use Rattle.server_core.proofs.Loads.{with_all_parts}
 use Rattle.server_core.proofs.Soundness.{old_set}
-use Rattle.change_laws.specs.Changes.{modules_of, state_after, terms_of}
+use Rattle.change_laws.specs.Changes.{modules_of, changed_state, incoming_terms}
 use Rattle.change_laws.specs.Counts.{HasEachKeyOnce}
 use Rattle.change_laws.specs.Uses.{instances_dropped, terms_dropped}
 use Rattle.change_laws.proofs.LoadedCode.{AreApart, apart_head, apart_tail, unequal}
@@ -46,7 +46,7 @@ live_all s (m ∷ ms) apart none =
 plus_none : (n : ℕ) → n ≡ n + 0
 plus_none n = omega arith
 
-pub instances_counted : (s : ServerState) (change : Change) → Fits s change → live_count (state_after s change).versions + length (instances_dropped change) ≡ live_count s.versions + length (modules_of change)
+pub instances_counted : (s : ServerState) (change : Change) → Fits s change → live_count (changed_state s change).versions + length (instances_dropped change) ≡ live_count s.versions + length (modules_of change)
 instances_counted s (BringIn generation modules areas versions) fits = let live = live_all s modules.items fits.1.once fits.1.purged in omega (arith, live)
 instances_counted s (MakeOld generation name) fits =
     let live = live_made_old s.versions (with_deleted s name.0).versions name.0 refl fits.1.old in
@@ -86,7 +86,7 @@ once_put (p ∷ ps) new once = by (nat_eq p.key new.key) refl (once_put ps new (
     by false is rest =
         AllPairs-cons (λ q r. q.key ≢ r.key) p (with_key ps new) (all_put (λ q. p.key ≢ q.key) ps new (once_head p ps once) (λ same. absurd (grind (arith, nat_tests, same)))) rest
 
-pub keys_once : (s : ServerState) (change : Change) → HasEachKeyOnce s → HasEachKeyOnce (state_after s change)
+pub keys_once : (s : ServerState) (change : Change) → HasEachKeyOnce s → HasEachKeyOnce (changed_state s change)
 keys_once s (BringIn generation modules areas versions) once = subst AreKeysOnce (sym (ap (λ t. t.keys) (with_all_parts s modules.items))) once
 keys_once s (HoldWord generation key term keys retired) once = once_put s.keys (record { key = key.0; term = plain term; area = None }) once
 keys_once s (HoldArea generation key term stored areas keys retired) once = once_put s.keys (record { key = key.0; term = plain term; area = Some s.next_serial }) once
@@ -119,7 +119,7 @@ counted_list : (o : Option ℕ) → counted o ≡ length (option_to_list o)
 counted_list None = refl
 counted_list (Some n) = refl
 
-pub terms_counted : (s : ServerState) (change : Change) → HasEachKeyOnce s → live_areas (state_after s change).keys + length (terms_dropped s change) ≡ live_areas s.keys + length (terms_of change)
+pub terms_counted : (s : ServerState) (change : Change) → HasEachKeyOnce s → live_areas (changed_state s change).keys + length (terms_dropped s change) ≡ live_areas s.keys + length (incoming_terms change)
 terms_counted s (BringIn generation modules areas versions) once = ap (λ t. live_areas t.keys + 0) (with_all_parts s modules.items)
 terms_counted s (HoldWord generation key term keys retired) once =
     let put = areas_put s.keys (record { key = key.0; term = plain term; area = None }) in

@@ -9,7 +9,7 @@ use Rattle.server_core.specs.declared.change.Change.TheVariants.{SetTrace}
 use Rattle.server_core.specs.declared.command.Cmd.{Cmd}
 use Rattle.server_core.specs.declared.command.Reply.TheVariants as replies
 use Rattle.server_core.specs.CommandTable.{Outcome, apply_of, published, with_trace}
-use Rattle.server_core.specs.Decided.{made}
+use Rattle.server_core.specs.Decided.{change_made}
 use Rattle.server_core.specs.ServerState.{Entry, ServerState, code_of, current_of, entry_of, function_named, is_same_entry, traceable_of}
 use Rattle.server_core.proofs.Changes.{Came, as_before, came, came_in, was_deleted, was_doomed, was_erased, was_purged, was_put, was_released, was_soft_purged, was_traced}
 use Rattle.server_core.proofs.CommandLaws.{put_keeps}
@@ -78,6 +78,6 @@ module _ (texts : List Module) (s : ServerState) (cmd : Cmd) (at : CodeRef) wher
   set_in (was_traced target false e command rest found news is) = other _ is (filter_few (λ x. not (is_same_entry e x)) s.traced)
   set_in (was_released serial command retired is) = other _ is (omega arith)
 
-pub decided_in_code : (texts : List Module) (s : ServerState) (cmd : Cmd) (change : Change) → apply_of texts s cmd ≡ Some (made s change) → SetsInCode s change
-decided_in_code texts s cmd (SetTrace generation at traced) h = set_in texts s cmd at (came texts s cmd (made s (SetTrace generation at traced)) h)
+pub decided_in_code : (texts : List Module) (s : ServerState) (cmd : Cmd) (change : Change) → apply_of texts s cmd ≡ Some (change_made s change) → SetsInCode s change
+decided_in_code texts s cmd (SetTrace generation at traced) h = set_in texts s cmd at (came texts s cmd (change_made s (SetTrace generation at traced)) h)
 decided_in_code texts s cmd change h = tt

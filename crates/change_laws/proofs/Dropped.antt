@@ -8,7 +8,7 @@ use Rattle.server_core.specs.Decided.{IsNoRelease}
 use Rattle.server_core.specs.ServerState.{IsDropped, IsInstanceOf, IsOldCode, IsSound, ServerState, current_of, is_retired, is_serial_in, old_of}
 use Rattle.server_core.proofs.Loads.{some_known, with_all_parts}
 use Rattle.server_core.proofs.Soundness.{area_is, at_some, instance_known, one_module}
-use Rattle.change_laws.specs.Changes.{IsSameButCode, state_after}
+use Rattle.change_laws.specs.Changes.{IsSameButCode, changed_state}
 use Rattle.change_laws.specs.Uses.{IsCurrentCode, IsUsed, instances_dropped, terms_dropped}
 
 -- ---- loads
@@ -28,7 +28,7 @@ load_leaves_rest s ms =
 
 -- ---- what is retired
 
-pub retired_after : (s : ServerState) (change : Change) → IsNoRelease change → (state_after s change).retired ≡ s.retired ++ (instances_dropped change ++ terms_dropped s change)
+pub retired_after : (s : ServerState) (change : Change) → IsNoRelease change → (changed_state s change).retired ≡ s.retired ++ (instances_dropped change ++ terms_dropped s change)
 retired_after s (BringIn generation modules areas versions) other = (load_leaves_rest s modules.items).retired ∙ sym (append-nil s.retired)
 retired_after s (DropOld generation name serial says retired) other = refl
 retired_after s (HoldWord generation key term keys retired) other = refl
@@ -37,7 +37,7 @@ retired_after s (Forget generation key retired) other = refl
 retired_after s (GiveBack serial released) other = absurd other
 retired_after s change other = sym (append-nil s.retired)
 
-pub released_after : (s : ServerState) (change : Change) → IsNoRelease change → (state_after s change).released ≡ s.released
+pub released_after : (s : ServerState) (change : Change) → IsNoRelease change → (changed_state s change).released ≡ s.released
 released_after s (BringIn generation modules areas versions) other = (load_leaves_rest s modules.items).released
 released_after s (GiveBack serial released) other = absurd other
 released_after s change other = refl

@@ -17,7 +17,7 @@ use Rattle.server_core.specs.declared.command.ModRef.{ModRef}
 use Rattle.server_core.specs.declared.command.Reply.{Reply}
 use Rattle.server_core.specs.declared.command.Reply.TheVariants as replies
 use Rattle.server_core.specs.CommandTable.{Outcome, admitted, answered, apply_of, delete_of, doom_of, erase_of, holds_equal, load_of, loaded, names_of, not_purged, published, purge_of, put_of, repeated_after, soft_purge_of, texts_of, trace_of, unchanged, while_none_doomed, with_all, with_deleted, with_dropped, with_erased, with_purged, with_put, with_released, with_trace}
-use Rattle.server_core.specs.Decided.{IsNoRelease, made, with_doomed}
+use Rattle.server_core.specs.Decided.{IsNoRelease, change_made, with_doomed}
 use Rattle.server_core.specs.ServerState.{Entry, Persistent, ServerState, current_of, is_doomed, is_retired, is_traced, live_areas, live_count, old_of, persistent_of, traceable_of}
 use Rattle.server_core.proofs.Changes.{no_outcome, some_outcome}
 use Rattle.change_laws.proofs.AfterRelease.{later, later_all, later_deleted, later_doomed, later_dropped, later_erased, later_made, later_published, later_purged, later_put, later_traced, later_unchanged}
@@ -131,21 +131,21 @@ longer s serial reply e =
 silent : {A : Type 0} (t u : ServerState) (reply other : Reply) → published t reply ≡ unchanged u other → A
 silent t u reply other e = let none = ap (λ (o : Outcome). o.answer.published) e in absurd (cc)
 
-no_release_made : {A : Type 0} (s : ServerState) (serial : ℕ) (change : Change) → IsNoRelease change → made s change ≡ unchanged (with_released s serial) replies.Ok → A
+no_release_made : {A : Type 0} (s : ServerState) (serial : ℕ) (change : Change) → IsNoRelease change → change_made s change ≡ unchanged (with_released s serial) replies.Ok → A
 no_release_made s serial (Nothing reply) other e = longer s serial reply e
 no_release_made s serial (GiveBack old released) other e = absurd other
 no_release_made s serial change other e = silent _ _ _ _ e
 
-released_made : {A : Type 0} (s : ServerState) (serial : ℕ) (change : Change) → IsNoRelease change → (b : Bool) → (if b then Some (unchanged (with_released s serial) replies.Ok) else None) ≡ Some (made s change) → A
-released_made s serial change other true e = no_release_made s serial change other (some_outcome (unchanged (with_released s serial) replies.Ok) (made s change) e)
-released_made s serial change other false e = no_outcome (made s change) e
+released_made : {A : Type 0} (s : ServerState) (serial : ℕ) (change : Change) → IsNoRelease change → (b : Bool) → (if b then Some (unchanged (with_released s serial) replies.Ok) else None) ≡ Some (change_made s change) → A
+released_made s serial change other true e = no_release_made s serial change other (some_outcome (unchanged (with_released s serial) replies.Ok) (change_made s change) e)
+released_made s serial change other false e = no_outcome (change_made s change) e
 
 -- ---- decided commands
 
-kept : (texts : List Module) (s : ServerState) (n : ℕ) (cmd : Cmd) (change : Change) → IsNoReleaseCommand cmd → IsNoRelease change → apply_of texts s cmd ≡ Some (made s change) → apply_of texts (with_released s n) cmd ≡ Some (made (with_released s n) change)
+kept : (texts : List Module) (s : ServerState) (n : ℕ) (cmd : Cmd) (change : Change) → IsNoReleaseCommand cmd → IsNoRelease change → apply_of texts s cmd ≡ Some (change_made s change) → apply_of texts (with_released s n) cmd ≡ Some (change_made (with_released s n) change)
 kept texts s n cmd change command other e = case_later texts s n cmd command ∙ ap (option_map (later s n)) e ∙ ap Some (sym (later_made s n change other))
 
-pub decided_stays : (texts : List Module) (s : ServerState) (n : ℕ) (cmd : Cmd) (change : Change) → IsNoRelease change → apply_of texts s cmd ≡ Some (made s change) → apply_of texts (with_released s n) cmd ≡ Some (made (with_released s n) change)
+pub decided_stays : (texts : List Module) (s : ServerState) (n : ℕ) (cmd : Cmd) (change : Change) → IsNoRelease change → apply_of texts s cmd ≡ Some (change_made s change) → apply_of texts (with_released s n) cmd ≡ Some (change_made (with_released s n) change)
 decided_stays texts s n (Release serial) change other e = released_made s serial change other (is_retired s serial) e
 decided_stays texts s n (Load refs) change other e = kept texts s n (Load refs) change tt other e
 decided_stays texts s n (Delete name) change other e = kept texts s n (Delete name) change tt other e

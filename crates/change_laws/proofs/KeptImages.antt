@@ -12,8 +12,8 @@ use Rattle.server_core.specs.CommandTable.{with_all, with_complex}
 use Rattle.server_core.specs.ServerState.{IsSound, ServerState, TermArea, code_of, first_words, instance_image, term_among, term_of_area, words_of_area}
 use Rattle.server_core.proofs.KeyChanges.{no_code_next, no_term_next, term_new}
 use Rattle.server_core.proofs.Loads.{with_all_parts}
-use Rattle.change_laws.specs.Changes.{Incoming, incoming, instance, state_after, stored}
-use Rattle.change_laws.specs.Images.{module_of, words_of}
+use Rattle.change_laws.specs.Changes.{Incoming, incoming, instance, changed_state, stored}
+use Rattle.change_laws.specs.Images.{incoming_module, words_of}
 use Rattle.change_laws.proofs.LoadedCode.{code_before, code_new, no_code_from}
 
 -- ---- areas of before
@@ -31,11 +31,11 @@ words_same s t serial code term = λ i. first_words (option_map (instance_image 
 pub terms_loaded : (s : ServerState) (ms : List Module) (serial : ℕ) → term_of_area (with_all s ms) serial ≡ term_of_area s serial
 terms_loaded s ms serial = ap (λ (t : ServerState). term_of_area t serial) (with_all_parts s ms)
 
-pub code_stays : (s : ServerState) (change : Change) (serial : ℕ) → serial < s.next_serial → code_of (state_after s change) serial ≡ code_of s serial
+pub code_stays : (s : ServerState) (change : Change) (serial : ℕ) → serial < s.next_serial → code_of (changed_state s change) serial ≡ code_of s serial
 code_stays s (BringIn generation modules areas versions) serial known = code_before s modules.items serial known
 code_stays s change serial known = refl
 
-pub images_before : (s : ServerState) (change : Change) (serial : ℕ) → serial < s.next_serial → words_of_area (state_after s change) serial ≡ words_of_area s serial
+pub images_before : (s : ServerState) (change : Change) (serial : ℕ) → serial < s.next_serial → words_of_area (changed_state s change) serial ≡ words_of_area s serial
 images_before s (BringIn generation modules areas versions) serial known = words_same s (with_all s modules.items) serial (code_before s modules.items serial known) (terms_loaded s modules.items serial)
 images_before s (HoldArea generation key term kept areas keys retired) serial known = words_same s (with_complex s key.0 (plain term)) serial refl (term_pushed_before s.terms s.next_serial serial (plain term) known)
 images_before s change serial known = refl
@@ -58,7 +58,7 @@ term_image_new s key term sound =
     ap (λ (o : Option Module). first_words (option_map (instance_image s.next_serial) o) (option_map image_of (term_of_area (with_complex s key term) s.next_serial))) (no_code_next s sound)
     ∙ ap (option_map image_of) (term_new s.terms s.next_serial term (no_term_next s sound))
 
-pub images_new : (s : ServerState) (change : Change) (place : ℕ) (comes : Incoming) → IsSound s → slice_get (incoming change) place ≡ Some comes → words_of_area (state_after s change) (s.next_serial + place) ≡ Some (words_of (s.next_serial + place) comes)
+pub images_new : (s : ServerState) (change : Change) (place : ℕ) (comes : Incoming) → IsSound s → slice_get (incoming change) place ≡ Some comes → words_of_area (changed_state s change) (s.next_serial + place) ≡ Some (words_of (s.next_serial + place) comes)
 images_new s (BringIn generation modules areas versions) place comes sound at =
     let found = module_at modules.items place comes at in
     module_image_new s modules.items place found.0 sound found.1 ∙ ap (λ c. Some (words_of (s.next_serial + place) c)) found.2
@@ -68,11 +68,11 @@ images_new s (HoldArea generation key term kept areas keys retired) zero comes s
     ap (words_of_area (with_complex s key.0 (plain term))) (sym first) ∙ term_image_new s key.0 (plain term) sound ∙ ap (λ c. Some (words_of (s.next_serial + 0) c)) same
 images_new s change place comes sound at = absurd (cc)
 
-pub code_comes : (s : ServerState) (change : Change) (place : ℕ) (comes : Incoming) → IsSound s → slice_get (incoming change) place ≡ Some comes → code_of (state_after s change) (s.next_serial + place) ≡ module_of comes
+pub code_comes : (s : ServerState) (change : Change) (place : ℕ) (comes : Incoming) → IsSound s → slice_get (incoming change) place ≡ Some comes → code_of (changed_state s change) (s.next_serial + place) ≡ incoming_module comes
 code_comes s (BringIn generation modules areas versions) place comes sound at =
     let found = module_at modules.items place comes at in
-    code_new s modules.items place found.0 sound found.1 ∙ ap module_of found.2
+    code_new s modules.items place found.0 sound found.1 ∙ ap incoming_module found.2
 code_comes s (HoldArea generation key term kept areas keys retired) zero comes sound at =
     let same : stored (plain term) ≡ comes = cc in
-    no_code_from s (s.next_serial + 0) sound (omega arith) ∙ ap module_of same
+    no_code_from s (s.next_serial + 0) sound (omega arith) ∙ ap incoming_module same
 code_comes s change place comes sound at = absurd (cc)

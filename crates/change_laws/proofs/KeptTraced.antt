@@ -7,10 +7,10 @@ use Rattle.server_core.specs.declared.change.Change.{Change}
 use Rattle.server_core.specs.declared.change.Change.TheVariants.{BringIn, ClearTrace, DropOld, SetTrace}
 use Rattle.server_core.specs.ServerState.{Entry, ServerState, entry_of, is_same_entry, is_traced}
 use Rattle.change_laws.specs.Breakpoints.{KeepsBreakpoints, traced_then}
-use Rattle.change_laws.specs.Changes.{state_after}
+use Rattle.change_laws.specs.Changes.{changed_state}
 use Rattle.change_laws.proofs.Dropped.{load_leaves_rest}
 
-pub traced_after : (s : ServerState) (change : Change) → KeepsBreakpoints change → (state_after s change).traced ≡ s.traced
+pub traced_after : (s : ServerState) (change : Change) → KeepsBreakpoints change → (changed_state s change).traced ≡ s.traced
 traced_after s (BringIn generation modules areas versions) keeps = (load_leaves_rest s modules.items).traced
 traced_after s (DropOld generation name serial says retired) keeps = absurd keeps
 traced_after s (SetTrace generation at traced) keeps = absurd keeps
@@ -57,7 +57,7 @@ same_either at e x h = ap (λ n. nat_eq at.serial n && nat_eq at.function x.func
     turned : (a b c d : ℕ) → (nat_eq a b && nat_eq c d) ≡ (nat_eq b a && nat_eq d c)
     turned a b c d = (λ i. swap a b i && swap c d i)
 
-pub traced_since : (s : ServerState) (change : Change) (e : Entry) → is_traced (state_after s change) e ≡ traced_then s change e
+pub traced_since : (s : ServerState) (change : Change) (e : Entry) → is_traced (changed_state s change) e ≡ traced_then s change e
 traced_since s (BringIn generation modules areas versions) e = ap (list_any (is_same_entry e)) (load_leaves_rest s modules.items).traced
 traced_since s (DropOld generation name serial says retired) e =
     any_without (is_same_entry e) (λ x. nat_eq x.serial serial) (nat_eq e.serial serial) s.traced (λ x h. ap (λ n. nat_eq n serial) (sym (same_serial e x h)))

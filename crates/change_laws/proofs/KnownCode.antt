@@ -12,7 +12,7 @@ use Rattle.server_core.specs.Decided.{Fits}
 use Rattle.server_core.specs.ServerState.{Entry, IsSound, ServerState, code_of, empty_state, entry_of, is_retired, is_same_entry, is_serial_in, is_traced}
 use Rattle.server_core.proofs.Soundness.{area_is}
 use Rattle.change_laws.specs.Breakpoints.{IsLiveCode, KnowsItsCode, SetsInCode, traced_then}
-use Rattle.change_laws.specs.Changes.{incoming, state_after}
+use Rattle.change_laws.specs.Changes.{incoming, changed_state}
 use Rattle.change_laws.specs.Uses.{IsCurrentCode, IsUsed}
 use Rattle.change_laws.proofs.Dropped.{load_leaves_rest}
 use Rattle.change_laws.proofs.GivenSerials.{serials_given}
@@ -34,7 +34,7 @@ abbrev pub IsDroppedBy : Change → ℕ → Type 0
 IsDroppedBy (DropOld generation name old says retired) serial = old ≡ serial
 IsDroppedBy change serial = ⊥
 
-pub live_kept : (s : ServerState) (change : Change) (serial : ℕ) → Fits s change → IsLiveCode s serial → IsLiveCode (state_after s change) serial ⊎ IsDroppedBy change serial
+pub live_kept : (s : ServerState) (change : Change) (serial : ℕ) → Fits s change → IsLiveCode s serial → IsLiveCode (changed_state s change) serial ⊎ IsDroppedBy change serial
 live_kept s (BringIn generation modules areas versions) serial fits (inl p) = inl (loaded_current s modules.items p.0 serial fits.1 p.1)
 live_kept s (BringIn generation modules areas versions) serial fits (inr p) = inl (loaded_old s modules.items p.0 serial fits.1 p.1)
 live_kept s (MakeOld generation at) serial fits (inl p) = inl (deleted_current s at.0 p.0 serial p.1)
@@ -44,12 +44,12 @@ live_kept s (DropOld generation at old says retired) serial fits (inr p) = purge
 live_kept s change serial fits live = inl live
 
 -- what is dropped is retired
-dropped_retired : (s : ServerState) (change : Change) (serial : ℕ) → IsDroppedBy change serial → IsTrue (is_retired (state_after s change) serial)
+dropped_retired : (s : ServerState) (change : Change) (serial : ℕ) → IsDroppedBy change serial → IsTrue (is_retired (changed_state s change) serial)
 dropped_retired s (DropOld generation name old says retired) serial one = ap (is_serial_in (s.retired ++ old ∷ [])) (sym one) ∙ in_pushed s.retired old
 dropped_retired s change serial none = absurd none
 
 -- what was released is so still
-released_kept : (s : ServerState) (change : Change) (serial : ℕ) → IsTrue (is_serial_in s.released serial) → IsTrue (is_serial_in (state_after s change).released serial)
+released_kept : (s : ServerState) (change : Change) (serial : ℕ) → IsTrue (is_serial_in s.released serial) → IsTrue (is_serial_in (changed_state s change).released serial)
 released_kept s (BringIn generation modules areas versions) serial h = ap (λ xs. is_serial_in xs serial) (load_leaves_rest s modules.items).released ∙ h
 released_kept s (GiveBack old released) serial h = kept_pushed s.released old serial h
 released_kept s change serial h = h
@@ -61,10 +61,10 @@ only B none (inl a) = a
 only B none (inr b) = absurd (none b)
 
 -- a function with a breakpoint had one, in code that is not dropped, or is one that was to get it
-still_live : (s : ServerState) (change : Change) (e : Entry) → Fits s change → SetsInCode s change → KnowsItsCode s → traced_then s change e ≡ true → IsLiveCode (state_after s change) e.serial
+still_live : (s : ServerState) (change : Change) (e : Entry) → Fits s change → SetsInCode s change → KnowsItsCode s → traced_then s change e ≡ true → IsLiveCode (changed_state s change) e.serial
 still_live s (DropOld generation name old says retired) e fits sets knows h = by (nat_eq e.serial old) refl h
   where
-    by : (b : Bool) → nat_eq e.serial old ≡ b → cond b false (is_traced s e) ≡ true → IsLiveCode (state_after s (DropOld generation name old says retired)) e.serial
+    by : (b : Bool) → nat_eq e.serial old ≡ b → cond b false (is_traced s e) ≡ true → IsLiveCode (changed_state s (DropOld generation name old says retired)) e.serial
     by true is h = absurd (cc)
     by false is h = only (old ≡ e.serial) (λ one. grind (arith, nat_tests, one)) (live_kept s (DropOld generation name old says retired) e.serial fits (knows.traced e h))
 still_live s (SetTrace generation at traced) e fits sets knows h = by (is_same_entry e (entry_of at)) refl h
@@ -92,10 +92,10 @@ IsKeptOrDropped t serial = IsLiveCode t serial ⊎ (IsTrue (is_retired t serial)
 
 module _ (s : ServerState) (change : Change) (sound : IsSound s) (fits : Fits s change) (serial : ℕ) where
   -- an instance of before
-  stood : IsKeptOrDropped s serial → IsKeptOrDropped (state_after s change) serial
+  stood : IsKeptOrDropped s serial → IsKeptOrDropped (changed_state s change) serial
   stood (inl live) = by (live_kept s change serial fits live)
     where
-      by : IsLiveCode (state_after s change) serial ⊎ IsDroppedBy change serial → IsKeptOrDropped (state_after s change) serial
+      by : IsLiveCode (changed_state s change) serial ⊎ IsDroppedBy change serial → IsKeptOrDropped (changed_state s change) serial
       by (inl now) = inl now
       by (inr dropped) = inr (inl (dropped_retired s change serial dropped))
   stood (inr (inl retired)) = inr (retired_kept s change serial retired)
@@ -108,9 +108,9 @@ module _ (s : ServerState) (change : Change) (sound : IsSound s) (fits : Fits s 
   used_live t m now code (inr (inr p)) = no_module m (sym (area_is t p.0 serial now p.1).2.no_code ∙ code)
 
   -- an instance that came in is used
-  came : (m : Module) → code_of (state_after s change) serial ≡ Some m → s.next_serial ≤ serial → IsLiveCode (state_after s change) serial
+  came : (m : Module) → code_of (changed_state s change) serial ≡ Some m → s.next_serial ≤ serial → IsLiveCode (changed_state s change) serial
   came m code later =
-      let t = state_after s change in
+      let t = changed_state s change in
       let now : IsSound t = change_sound s change sound fits in
       let known : serial < t.next_serial = (subst (λ o. IfSome o (λ n. IsModule n × (serial < t.next_serial))) code (now.modules serial)).1 in
       let place : ℕ = serial - s.next_serial in
@@ -118,14 +118,14 @@ module _ (s : ServerState) (change : Change) (sound : IsSound s) (fits : Fits s 
       let comes = element_at (incoming change) place (omega (arith, known, later, serials_given s change)) in
       used_live t m now code (subst (IsUsed t) here (incoming_used s change place comes.0 fits comes.1))
 
-  kept_after : KnowsItsCode s → (m : Module) → code_of (state_after s change) serial ≡ Some m → IsKeptOrDropped (state_after s change) serial
+  kept_after : KnowsItsCode s → (m : Module) → code_of (changed_state s change) serial ≡ Some m → IsKeptOrDropped (changed_state s change) serial
   kept_after knows m code = by (cases_lt serial s.next_serial)
     where
-      by : (serial < s.next_serial) ⊎ (s.next_serial ≤ serial) → IsKeptOrDropped (state_after s change) serial
+      by : (serial < s.next_serial) ⊎ (s.next_serial ≤ serial) → IsKeptOrDropped (changed_state s change) serial
       by (inl before) = stood (knows.kept serial m (sym (code_stays s change serial before) ∙ code))
       by (inr later) = inl (came m code later)
 
-pub knows_after : (s : ServerState) (change : Change) → IsSound s → Fits s change → SetsInCode s change → KnowsItsCode s → KnowsItsCode (state_after s change)
+pub knows_after : (s : ServerState) (change : Change) → IsSound s → Fits s change → SetsInCode s change → KnowsItsCode s → KnowsItsCode (changed_state s change)
 knows_after s change sound fits sets knows = record {
   traced = λ e h. still_live s change e fits sets knows (sym (traced_since s change e) ∙ h);
   kept = λ serial m code. kept_after s change sound fits serial knows m code;

@@ -16,7 +16,7 @@ use Rattle.server_core.proofs.KeyChanges.{persistent_erased, persistent_put}
 use Rattle.server_core.proofs.Loads.{with_all_parts}
 use Rattle.server_core.proofs.Soundness.{current_set, held_push, held_without, old_set, some_same}
 use Rattle.change_laws.specs.Breakpoints.{IsLiveCode}
-use Rattle.change_laws.specs.Changes.{Incoming, incoming, state_after}
+use Rattle.change_laws.specs.Changes.{Incoming, incoming, changed_state}
 use Rattle.change_laws.specs.Uses.{IsUsed}
 use Rattle.change_laws.proofs.KeptImages.{module_at}
 use Rattle.change_laws.proofs.LoadedCode.{HaveOther, current_new, current_other, no_module, no_serial, old_new, old_other, some_module}
@@ -171,7 +171,7 @@ erased_held s t at key serial keys retired e =
 
 -- ---- each change
 
-pub used_kept : (s : ServerState) (change : Change) (serial : ℕ) → Fits s change → IsUsed s serial → UsedOrRetired (state_after s change) serial
+pub used_kept : (s : ServerState) (change : Change) (serial : ℕ) → Fits s change → IsUsed s serial → UsedOrRetired (changed_state s change) serial
 used_kept s (BringIn generation modules areas versions) serial fits used =
     let t = with_all s modules.items in
     by_use s t serial (λ name e. from_live t serial (loaded_current s modules.items name serial fits.1 e)) (λ name e. from_live t serial (loaded_old s modules.items name serial fits.1 e)) (λ key e. loaded_held s modules.items key serial e) used
@@ -182,13 +182,13 @@ used_kept s (DropOld generation at old says retired) serial fits used =
     let t = with_purged s at.0 old in
     by_use s t serial (λ name e. inl (inl (name, current_purged s at.0 old name ∙ e))) (λ name e. purged_retired s at.0 old serial (purged_old s at.0 old name serial fits.1 e)) (λ key e. is_held t key serial e) used
 used_kept s (HoldWord generation key term keys retired) serial fits used =
-    let t = state_after s (HoldWord generation key term keys retired) in
+    let t = changed_state s (HoldWord generation key term keys retired) in
     rekeyed s t serial (λ name. refl) (λ name. refl) (λ k e. put_held s t (record { key = key.0; term = plain term; area = None }) k serial refl refl e) used
 used_kept s (HoldArea generation key term stored areas keys retired) serial fits used =
-    let t = state_after s (HoldArea generation key term stored areas keys retired) in
+    let t = changed_state s (HoldArea generation key term stored areas keys retired) in
     rekeyed s t serial (λ name. refl) (λ name. refl) (λ k e. put_held s t (record { key = key.0; term = plain term; area = Some s.next_serial }) k serial refl refl e) used
 used_kept s (Forget generation key retired) serial fits used =
-    let t = state_after s (Forget generation key retired) in
+    let t = changed_state s (Forget generation key retired) in
     rekeyed s t serial (λ name. refl) (λ name. refl) (λ k e. erased_held s t key.0 k serial refl refl e) used
 used_kept s change serial fits used = inl used
 
@@ -204,7 +204,7 @@ released_or_kept s old serial true is h =
     inr (ap (λ n. is_serial_in (s.released ++ old ∷ []) n) (sym same) ∙ in_pushed s.released old)
 released_or_kept s old serial false is h = inl (held_without s.retired old serial ∙ ap (λ b. b && not (nat_eq old serial)) h ∙ ap not is)
 
-pub retired_kept : (s : ServerState) (change : Change) (serial : ℕ) → IsTrue (is_retired s serial) → RetiredOrReleased (state_after s change) serial
+pub retired_kept : (s : ServerState) (change : Change) (serial : ℕ) → IsTrue (is_retired s serial) → RetiredOrReleased (changed_state s change) serial
 retired_kept s (BringIn generation modules areas versions) serial h = inl (ap (λ (t : ServerState). is_retired t serial) (with_all_parts s modules.items) ∙ h)
 retired_kept s (DropOld generation name old says retired) serial h = inl (kept_pushed s.retired old serial h)
 retired_kept s (HoldWord generation key term keys retired) serial h = inl (kept_option s.retired (key_area s key.0) serial h)
@@ -223,12 +223,12 @@ put_used s t new area keys =
     let here : nat_eq new.key new.key ≡ true = grind (arith, nat_tests) in
     inr (inr (new.key, ap (λ ps. area_among ps new.key) keys ∙ ap (option_and_then (λ p. p.area)) (persistent_put s.keys new new.key ∙ ap (λ b. cond b (Some new) (persistent_of s new.key)) here) ∙ area))
 
-pub incoming_used : (s : ServerState) (change : Change) (place : ℕ) (comes : Incoming) → Fits s change → slice_get (incoming change) place ≡ Some comes → IsUsed (state_after s change) (s.next_serial + place)
+pub incoming_used : (s : ServerState) (change : Change) (place : ℕ) (comes : Incoming) → Fits s change → slice_get (incoming change) place ≡ Some comes → IsUsed (changed_state s change) (s.next_serial + place)
 incoming_used s (BringIn generation modules areas versions) place comes fits at =
     let found = module_at modules.items place comes at in
     loaded_used s modules.items place found.0 fits.1 found.1
 incoming_used s (HoldArea generation key term kept areas keys retired) zero comes fits at =
-    let t = state_after s (HoldArea generation key term kept areas keys retired) in
+    let t = changed_state s (HoldArea generation key term kept areas keys retired) in
     let first : s.next_serial ≡ s.next_serial + 0 = omega arith in
     subst (IsUsed t) first (put_used s t (record { key = key.0; term = plain term; area = Some s.next_serial }) refl refl)
 incoming_used s change place comes fits at = absurd (cc)

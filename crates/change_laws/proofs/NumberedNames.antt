@@ -16,7 +16,7 @@ use Rattle.server_core.proofs.Changes.{Came, as_before, came, came_in, was_delet
 use Rattle.server_core.proofs.CommandLaws.{put_keeps}
 use Rattle.server_core.proofs.Loads.{code_pushed, some_known}
 use Rattle.server_core.proofs.Soundness.{current_set, some_same}
-use Rattle.change_laws.specs.Changes.{modules_of, state_after}
+use Rattle.change_laws.specs.Changes.{modules_of, changed_state}
 use Rattle.change_laws.specs.Names.{IsNumbered}
 use Rattle.change_laws.proofs.LoadedCode.{code_behind, no_code_from, no_module, some_module}
 use Rattle.change_laws.proofs.Reached.{current_purged, deleted_reached, delete_leaves, others_leave, reaches_export, reaches_same}
@@ -93,10 +93,10 @@ numbered_deleted names s name numbered to reached = by (nat_eq name to.«module�
     by true is = absurd (cc (subst IsSome (deleted_reached s name to (grind (arith, nat_tests))) reached))
     by false is = numbered to (subst IsSome (delete_leaves s name to (λ same. absurd (grind (arith, nat_tests, same)))) reached)
 
-pub changes_numbered : (names : List Mfa) (s : ServerState) (change : Change) → IsSound s → All (IsNumbered names) (modules_of change) → AreNumbered names s → AreNumbered names (state_after s change)
+pub changes_numbered : (names : List Mfa) (s : ServerState) (change : Change) → IsSound s → All (IsNumbered names) (modules_of change) → AreNumbered names s → AreNumbered names (changed_state s change)
 changes_numbered names s (BringIn generation modules areas versions) sound exports numbered = numbered_all names s modules.items (sound_given s sound) exports numbered
 changes_numbered names s (MakeOld generation name) sound exports numbered = numbered_deleted names s name.0 numbered
-changes_numbered names s (DropOld generation name serial says retired) sound exports numbered = as_was names s (state_after s (DropOld generation name serial says retired)) (λ to. others_leave s (DropOld generation name serial says retired) to tt) numbered
+changes_numbered names s (DropOld generation name serial says retired) sound exports numbered = as_was names s (changed_state s (DropOld generation name serial says retired)) (λ to. others_leave s (DropOld generation name serial says retired) to tt) numbered
 changes_numbered names s change sound exports numbered = numbered
 
 -- ---- commands

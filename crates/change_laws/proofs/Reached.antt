@@ -12,7 +12,7 @@ use Rattle.server_core.specs.ServerState.{Entry, IsSound, ServerState, code_of, 
 use Rattle.server_core.proofs.Loads.{some_known}
 use Rattle.server_core.proofs.Soundness.{current_set}
 use Rattle.change_laws.specs.Calls.{KeepsCurrent, export_at}
-use Rattle.change_laws.specs.Changes.{state_after}
+use Rattle.change_laws.specs.Changes.{changed_state}
 use Rattle.change_laws.proofs.LoadedCode.{HaveOther, code_before, code_new, current_new, current_other}
 
 -- what a call reaches in a state, by the current code of its module
@@ -71,7 +71,7 @@ current_purged s name serial k = current_set s.versions (record { name = name; c
     by true e = let same : name ≡ k = grind (arith, nat_tests) in ap (current_of s) same
     by false e = refl
 
-pub others_leave : (s : ServerState) (change : Change) (to : Mfa) → KeepsCurrent change → dispatch_of (state_after s change) to ≡ dispatch_of s to
+pub others_leave : (s : ServerState) (change : Change) (to : Mfa) → KeepsCurrent change → dispatch_of (changed_state s change) to ≡ dispatch_of s to
 others_leave s (BringIn generation modules areas versions) to keeps = absurd keeps
 others_leave s (MakeOld generation name) to keeps = absurd keeps
 others_leave s (DropOld generation name serial says retired) to keeps = reaches_same s (with_purged s name.0 serial) to (current_purged s name.0 serial to.«module».0) (λ n at. refl)

@@ -10,7 +10,7 @@ use Rattle.server_core.proofs.KeyChanges.{sound_complex, sound_erased, sound_imm
 use Rattle.server_core.proofs.Loads.{sound_all}
 use Rattle.server_core.proofs.SoundParts.{sound_terms, sound_whole, terms_kept}
 use Rattle.server_core.proofs.Soundness.{held_later, sound_deleted, sound_published, sound_purged, sound_released}
-use Rattle.change_laws.specs.Changes.{state_after}
+use Rattle.change_laws.specs.Changes.{changed_state}
 
 -- what is dropped does not depend on traces
 pub dropped_traced : (s : ServerState) (traced : List Entry) (serial : ℕ) → IsDropped s serial → IsDropped (record s { traced = traced }) serial
@@ -55,7 +55,7 @@ sound_doomed s serial sound can = sound_whole (with_doomed s serial) (record {
     is_old k (inr h) = subst (λ n. IsOldCode s n) h can.old
 
 -- each change keeps a state sound
-pub change_sound : (s : ServerState) (change : Change) → IsSound s → Fits s change → IsSound (state_after s change)
+pub change_sound : (s : ServerState) (change : Change) → IsSound s → Fits s change → IsSound (changed_state s change)
 change_sound s (Nothing reply) sound fits = sound
 change_sound s (BringIn generation modules areas versions) sound fits = sound_published (with_all s modules.items) _ (sound_all s modules.items sound fits.1.rest fits.1.sound fits.1.places)
 change_sound s (MakeOld generation name) sound fits = sound_published (with_deleted s name.0) _ (sound_deleted s name.0 sound fits.1.rest)

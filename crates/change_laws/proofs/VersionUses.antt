@@ -8,7 +8,7 @@ use Rattle.server_core.specs.CommandTable.{with_all, with_deleted, with_loaded, 
 use Rattle.server_core.specs.Decided.{Fits}
 use Rattle.server_core.specs.ServerState.{ServerState, Versions, current_among, current_of, old_among, old_of}
 use Rattle.server_core.proofs.Soundness.{current_set, old_set, some_same}
-use Rattle.change_laws.specs.Changes.{state_after}
+use Rattle.change_laws.specs.Changes.{changed_state}
 use Rattle.change_laws.proofs.LoadedCode.{AreApart, apart_head, apart_tail, no_serial, old_here, old_other}
 use Rattle.change_laws.proofs.Reached.{current_purged}
 
@@ -61,7 +61,7 @@ current_deleted s at name serial e = by (current_chosen s (record { name = at; c
     by (inl p) = no_serial serial p.1
     by (inr p) = p.1
 
-pub current_stood : (s : ServerState) (change : Change) (name serial : ℕ) → current_of (state_after s change) name ≡ Some serial → (current_of s name ≡ Some serial) ⊎ (s.next_serial ≤ serial)
+pub current_stood : (s : ServerState) (change : Change) (name serial : ℕ) → current_of (changed_state s change) name ≡ Some serial → (current_of s name ≡ Some serial) ⊎ (s.next_serial ≤ serial)
 current_stood s (BringIn generation modules areas versions) name serial e = current_all s modules.items name serial e
 current_stood s (MakeOld generation at) name serial e = inl (current_deleted s at.0 name serial e)
 current_stood s (DropOld generation at old says retired) name serial e = inl (sym (current_purged s at.0 old name) ∙ e)
@@ -105,7 +105,7 @@ old_purged s at old name serial e = by (old_chosen s (record { name = at; curren
     by (inl p) = no_serial serial p.1
     by (inr p) = p.1
 
-pub old_stood : (s : ServerState) (change : Change) (name serial : ℕ) → Fits s change → old_of (state_after s change) name ≡ Some serial → WasVersion s name serial
+pub old_stood : (s : ServerState) (change : Change) (name serial : ℕ) → Fits s change → old_of (changed_state s change) name ≡ Some serial → WasVersion s name serial
 old_stood s (BringIn generation modules areas versions) name serial fits e = old_all s modules.items name serial fits.1.once e
 old_stood s (MakeOld generation at) name serial fits e = old_deleted s at.0 name serial e
 old_stood s (DropOld generation at old says retired) name serial fits e = inr (old_purged s at.0 old name serial e)

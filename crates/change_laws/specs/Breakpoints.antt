@@ -7,9 +7,9 @@ use Rattle.server_core.specs.declared.change.Change.{Change}
 use Rattle.server_core.specs.declared.change.Change.TheVariants.{ClearTrace, DropOld, SetTrace}
 use Rattle.server_core.specs.declared.command.Cmd.{Cmd}
 use Rattle.server_core.specs.CommandTable.{apply_of}
-use Rattle.server_core.specs.Decided.{Fits, made}
+use Rattle.server_core.specs.Decided.{Fits, change_made}
 use Rattle.server_core.specs.ServerState.{Entry, IsOldCode, IsSound, ServerState, code_of, empty_state, entry_of, is_retired, is_same_entry, is_serial_in, is_traced}
-use Rattle.change_laws.specs.Changes.{state_after}
+use Rattle.change_laws.specs.Changes.{changed_state}
 use Rattle.change_laws.specs.Uses.{IsCurrentCode}
 
 -- a change that neither sets nor clears a breakpoint, nor drops code, whose breakpoints go with it
@@ -21,7 +21,7 @@ KeepsBreakpoints change = Unit {0}
 
 -- once it is made, the same functions have a breakpoint
 abbrev pub BreakpointsStay : Type 0
-BreakpointsStay = (s : ServerState) (change : Change) → KeepsBreakpoints change → (state_after s change).traced ≡ s.traced
+BreakpointsStay = (s : ServerState) (change : Change) → KeepsBreakpoints change → (changed_state s change).traced ≡ s.traced
 
 -- whether a function has a breakpoint then: the one whose breakpoint is set or cleared as was asked, none of the code that is dropped, each other as before
 abbrev pub traced_then : ServerState → Change → Entry → Bool
@@ -32,7 +32,7 @@ traced_then s change e = is_traced s e
 
 -- so it is once any change is made
 abbrev pub BreakpointsFollow : Type 0
-BreakpointsFollow = (s : ServerState) (change : Change) (e : Entry) → is_traced (state_after s change) e ≡ traced_then s change e
+BreakpointsFollow = (s : ServerState) (change : Change) (e : Entry) → is_traced (changed_state s change) e ≡ traced_then s change e
 
 -- ---- code that is known
 
@@ -51,7 +51,7 @@ SetsInCode s (SetTrace generation at traced) = IsCurrentCode s at.area.serial
 SetsInCode s change = Unit {0}
 
 -- the function is one of current code
-pub record IsFunctionOf (s : ServerState) (at : CodeRef) : Type 0 where
+pub record IsFunctionOfArea (s : ServerState) (at : CodeRef) : Type 0 where
   pub current : IsCurrentCode s at.area.serial
   pub code : Module
   pub is : code_of s at.area.serial ≡ Some code
@@ -59,13 +59,13 @@ pub record IsFunctionOf (s : ServerState) (at : CodeRef) : Type 0 where
 
 -- a breakpoint that a change sets or clears is one of a function of current code
 abbrev pub TracesInCode : ServerState → Change → Type 0
-TracesInCode s (SetTrace generation at traced) = IsFunctionOf s at
-TracesInCode s (ClearTrace generation at) = IsFunctionOf s at
+TracesInCode s (SetTrace generation at traced) = IsFunctionOfArea s at
+TracesInCode s (ClearTrace generation at) = IsFunctionOfArea s at
 TracesInCode s change = Unit {0}
 
 -- each change for which a command was decided sets breakpoints in current code
 abbrev pub DecidedSetsInCode : Type 0
-DecidedSetsInCode = (texts : List Module) (s : ServerState) (cmd : Cmd) (change : Change) → apply_of texts s cmd ≡ Some (made s change) → SetsInCode s change
+DecidedSetsInCode = (texts : List Module) (s : ServerState) (cmd : Cmd) (change : Change) → apply_of texts s cmd ≡ Some (change_made s change) → SetsInCode s change
 
 -- the state knows its code in the beginning
 abbrev pub CodeBeginsKnown : Type 0
@@ -73,4 +73,4 @@ CodeBeginsKnown = KnowsItsCode empty_state
 
 -- and after each change that fits
 abbrev pub CodeStaysKnown : Type 0
-CodeStaysKnown = (s : ServerState) (change : Change) → IsSound s → Fits s change → SetsInCode s change → KnowsItsCode s → KnowsItsCode (state_after s change)
+CodeStaysKnown = (s : ServerState) (change : Change) → IsSound s → Fits s change → SetsInCode s change → KnowsItsCode s → KnowsItsCode (changed_state s change)

@@ -8,7 +8,7 @@ use Rattle.server_core.specs.declared.change.Change.TheVariants.{BringIn, MakeOl
 use Rattle.server_core.specs.CommandTable.{with_all, with_deleted}
 use Rattle.server_core.specs.Decided.{FitsIn}
 use Rattle.server_core.specs.ServerState.{Entry, IsSound, ServerState, dispatch_of, export_of}
-use Rattle.change_laws.specs.Changes.{state_after}
+use Rattle.change_laws.specs.Changes.{changed_state}
 
 -- what a module exports under a name, in its instance with this serial
 abbrev pub export_at : ℕ → Module → Mfa → Option Entry
@@ -39,4 +39,4 @@ KeepsCurrent change = Unit {0}
 
 -- once it is made, every call reaches what it reached
 abbrev pub OthersLeaveCalls : Type 0
-OthersLeaveCalls = (s : ServerState) (change : Change) (to : Mfa) → KeepsCurrent change → dispatch_of (state_after s change) to ≡ dispatch_of s to
+OthersLeaveCalls = (s : ServerState) (change : Change) (to : Mfa) → KeepsCurrent change → dispatch_of (changed_state s change) to ≡ dispatch_of s to

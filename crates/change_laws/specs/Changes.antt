@@ -7,12 +7,12 @@ use Rattle.mod_core.specs.declared.code.Module.{Module}
 use Rattle.server_core.specs.declared.change.Change.{Change}
 use Rattle.server_core.specs.declared.change.Change.TheVariants.{BringIn, HoldArea}
 use Rattle.server_core.specs.CommandTable.{with_all}
-use Rattle.server_core.specs.Decided.{Fits, made}
+use Rattle.server_core.specs.Decided.{Fits, change_made}
 use Rattle.server_core.specs.ServerState.{IsSound, ServerState}
 
 -- the state that a change leaves once it is made
-abbrev pub state_after : ServerState → Change → ServerState
-state_after s change = (made s change).state
+abbrev pub changed_state : ServerState → Change → ServerState
+changed_state s change = (change_made s change).state
 
 -- what stands in an area of its own: an instance of a module, or a complex term
 pub data Incoming : Type 0 where
@@ -31,17 +31,17 @@ modules_of (BringIn generation modules areas versions) = modules.items
 modules_of change = []
 
 -- the complex terms that come in with it
-abbrev pub terms_of : Change → List PlainTerm
-terms_of (HoldArea generation key term kept areas keys retired) = plain term ∷ []
-terms_of change = []
+abbrev pub incoming_terms : Change → List PlainTerm
+incoming_terms (HoldArea generation key term kept areas keys retired) = plain term ∷ []
+incoming_terms change = []
 
 -- each change that fits leaves a sound state sound
 abbrev pub ChangesKeepSound : Type 0
-ChangesKeepSound = (s : ServerState) (change : Change) → IsSound s → Fits s change → IsSound (state_after s change)
+ChangesKeepSound = (s : ServerState) (change : Change) → IsSound s → Fits s change → IsSound (changed_state s change)
 
 -- serials are given to what comes in, one each, and to nothing else
 abbrev pub SerialsAreGiven : Type 0
-SerialsAreGiven = (s : ServerState) (change : Change) → (state_after s change).next_serial ≡ s.next_serial + length (incoming change)
+SerialsAreGiven = (s : ServerState) (change : Change) → (changed_state s change).next_serial ≡ s.next_serial + length (incoming change)
 
 -- two states that differ at most in their instances, in the next serial, and in what is current and old
 pub record IsSameButCode (s t : ServerState) : Type 0 where

@@ -8,7 +8,7 @@ use Rattle.server_core.specs.declared.command.Cmd.{Cmd}
 use Rattle.server_core.specs.CommandTable.{Outcome, apply_of}
 use Rattle.server_core.specs.Generations.{AreNumbered, number_of_name}
 use Rattle.server_core.specs.ServerState.{IsSound, ServerState, export_of}
-use Rattle.change_laws.specs.Changes.{modules_of, state_after}
+use Rattle.change_laws.specs.Changes.{modules_of, changed_state}
 
 -- each name under which the module exports a function has a number
 abbrev pub IsNumbered : List Mfa → Module → Type 0
@@ -16,7 +16,7 @@ IsNumbered names m = (to : Mfa) → m.name.0 ≡ to.«module».0 → IsSome (exp
 
 -- where the modules that come in have numbers for their names, all names that are reached have numbers still
 abbrev pub ChangesKeepNumbers : Type 0
-ChangesKeepNumbers = (names : List Mfa) (s : ServerState) (change : Change) → IsSound s → All (IsNumbered names) (modules_of change) → AreNumbered names s → AreNumbered names (state_after s change)
+ChangesKeepNumbers = (names : List Mfa) (s : ServerState) (change : Change) → IsSound s → All (IsNumbered names) (modules_of change) → AreNumbered names s → AreNumbered names (changed_state s change)
 
 -- and so after each command, where each of the texts has them
 abbrev pub CommandsKeepNumbers : Type 0

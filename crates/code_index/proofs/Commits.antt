@@ -11,7 +11,7 @@ use Rattle.area_core.specs.Map.{word_at}
 use Rattle.area_core.specs.Blocks.{Among, RootFits, AreaStands}
 use Rattle.area_core.specs.Step.{to_publish}
 use Rattle.shared_words.specs.declared.view.WriterView.{WriterView}
-use Rattle.shared_words.specs.Views.{newest}
+use Rattle.shared_words.specs.Views.{newest_number}
 use Rattle.shared_words.specs.Kinds.{counter_kept}
 use Rattle.shared_words.specs.Rule.{MayBeRead}
 use Rattle.shared_words.specs.Publishing.{MayPublish, with_next}
@@ -36,12 +36,12 @@ pub record LoadsOn (old new : WriterView) (need : ℕ) : Type 0 where
   pub view : new ≡ record old { pairs = new.pairs; counter = new.counter }
   pub more : (pair : Retirement) → Among old.pairs pair → Among new.pairs pair
   pub rising : old.counter ≤ new.counter
-  pub taken : HasTaken new (newest old.published) need
+  pub taken : HasTaken new (newest_number old.published) need
 
 begun_on : (x : Staging) (old begun : WriterView) (need : ℕ) → TakesNeed x old begun need → GoesWith x old → LoadsOn old begun need
 begun_on Nothing old begun need taken goes = absurd taken
 begun_on (Staged block) old begun need taken goes =
-    let last : Retirement = record { generation = newest old.published; need = taken.counter + 2 } in
+    let last : Retirement = record { generation = newest_number old.published; need = taken.counter + 2 } in
     let here : LoadsOn old (counter_kept taken.counter old) (taken.counter + 2) = record {
       view = refl;
       more = λ pair among. (among.0, still_at old.pairs _ among.0 pair among.1);
@@ -56,7 +56,7 @@ begun_on (Committing block kept) old begun need taken goes =
 loaded_on : (old begun new : WriterView) (need : ℕ) → LoadsOn old begun need → HasLoadedCounter begun new → LoadsOn old new need
 loaded_on old begun new need h loaded =
     let counter = loaded.counter in
-    let pairs = begun.pairs ++ (record { generation = newest begun.published; need = counter + 2 }) ∷ [] in
+    let pairs = begun.pairs ++ (record { generation = newest_number begun.published; need = counter + 2 }) ∷ [] in
     let here : LoadsOn old (counter_kept counter begun) need = record {
       view = ap (λ (v : WriterView). record v { pairs = pairs; counter = counter }) h.view;
       more = λ pair among. let found = h.more pair among in (found.0, still_at begun.pairs _ found.0 pair found.1);
@@ -108,9 +108,9 @@ module _ (Served : Published → Type 0) (x : Staging) (old : WriterView) (state
   v = record old { pairs = new.pairs; counter = new.counter }
 
   -- behind the wait only the newest generation may be read
-  number_is : (g : ℕ) (q : Published) → MayBeRead v g → slice_get old.published g ≡ Some q → g ≡ newest old.published
+  number_is : (g : ℕ) (q : Published) → MayBeRead v g → slice_get old.published g ≡ Some q → g ≡ newest_number old.published
   number_is g q reads at =
-      let last = reads (record { generation = newest old.published; need = need }) on.taken enough in
+      let last = reads (record { generation = newest_number old.published; need = need }) on.taken enough in
       let within = slice_get_within old.published g q at in
       omega (arith, last, within)
 

@@ -14,7 +14,7 @@ use Rattle.shared_words.specs.declared.opening.Opening.{Opening}
 use Rattle.shared_words.specs.declared.seats.Writer as writers
 use Rattle.shared_words.specs.declared.view.View.TheVariants.{Writer}
 use Rattle.shared_words.specs.declared.view.WriterView.{WriterView}
-use Rattle.shared_words.specs.Views.{newest}
+use Rattle.shared_words.specs.Views.{newest_number}
 use Rattle.shared_words.specs.Publishing.{FitsInBlock, FitsWord, MayStoreWord, MayLoadWord, WordTells, with_word, kept_left}
 use Rattle.shared_words.proofs.ShownMembers.{there_is}
 use Rattle.progress_words.specs.Tokens.{written_by, IsWriterOf, IsSameWriter}
@@ -35,8 +35,8 @@ reads_none : (p : Published) (block at : ℕ) → (block ≡ p.root.code → ⊥
 reads_none p block at differ low = rw (lt-ltb block 3 low) (ne_eqb block p.root.code differ)
 
 -- the newest generation stands at its number
-pub newest_there : (w : WriterView) → 0 < length w.published → slice_get w.published (newest w.published) ≡ Some (newest_of w)
-newest_there w some = there_is w.published (newest w.published) opening_published (omega (arith, some))
+pub newest_there : (w : WriterView) → 0 < length w.published → slice_get w.published (newest_number w.published) ≡ Some (newest_of w)
+newest_there w some = there_is w.published (newest_number w.published) opening_published (omega (arith, some))
 
 -- the writer may load a word of the active index
 pub may_load : (w : WriterView) (entry : ℕ) → 0 < length w.published → active_index w < 3 → entry < 1024 → MayLoadWord (block_place (active_index w) entry) (Writer w)
@@ -47,8 +47,8 @@ may_load w entry some fits few =
 -- what it finds leads the name to what the newest generation exports
 pub load_leads : (w : WriterView) (entry found : ℕ) → 0 < length w.published → entry < 1024 → WordTells (Writer w) (block_place (active_index w) entry) found → is_code_word (newest_of w) (slice_get (newest_of w).state.exports entry) found ≡ true
 load_leads w entry found some few tells =
-    let told = tells (newest w.published) (newest_of w) refl (newest_there w some) in
-    ap (is_code_word (newest_of w) (slice_get (newest_of w).state.exports entry)) (sym told.here) ∙ told.stands.code_stands (newest w.published) (newest_of w) refl told.published entry few
+    let told = tells (newest_number w.published) (newest_of w) refl (newest_there w some) in
+    ap (is_code_word (newest_of w) (slice_get (newest_of w).state.exports entry)) (sym told.here) ∙ told.stands.code_stands (newest_number w.published) (newest_of w) refl told.published entry few
 
 -- a word of the staging index may be stored
 pub may_stage : (x : Staging) (w : WriterView) (entry value : ℕ) → entry < 1024 → IsIndexOf x w → MayStoreWord w (block_place (staging_index w) entry) value

@@ -10,7 +10,7 @@ use Rattle.area_core.specs.Roots.{fresh_areas}
 use Rattle.area_core.proofs.Places.{word_there}
 use Rattle.area_core.proofs.RootTests.{in_either}
 use Rattle.shared_words.specs.declared.view.WriterView.{WriterView}
-use Rattle.shared_words.specs.Views.{newest, published_at}
+use Rattle.shared_words.specs.Views.{newest_number, published_at}
 use Rattle.shared_words.specs.Kinds.{counter_kept}
 use Rattle.shared_words.specs.Notes.{with_note}
 use Rattle.shared_words.specs.Rule.{MayBeRead}
@@ -99,7 +99,7 @@ each_of published p Holds new old g q at =
     (λ (last : (g ≡ length published) × (q ≡ p)). subst (λ (z : ℕ × Published). Holds z.0 z.1) (λ i. (sym last.0 i, sym last.1 i)) new)
     (slice_get-push_at published p g q at)
 
-pub newest_is : (published : List Published) (p : Published) → published_at (published ++ p ∷ []) (newest (published ++ p ∷ [])) ≡ p
+pub newest_is : (published : List Published) (p : Published) → published_at (published ++ p ∷ []) (newest_number (published ++ p ∷ [])) ≡ p
 newest_is published p = ap (published_at (published ++ p ∷ [])) (newest_next published p) ∙ at_next published p
 
 pub kept_high : (w : WriterView) (p : Published) → ((k : KeptArea) → Among w.kept k → 9 ≤ k.area.block) → ((k : KeptArea) → Among (fresh_areas w.kept p) k → 9 ≤ k.area.block) → (k : KeptArea) → Among (kept_next w p) k → 9 ≤ k.area.block

@@ -18,7 +18,7 @@ use Rattle.shared_words.specs.declared.view.WriterView.{WriterView}
 use Rattle.shared_words.specs.Publishing.{with_word}
 use Rattle.code_index.specs.declared.index.Staging.{Staging}
 use Rattle.code_index.specs.declared.index.Staging.TheVariants.{Nothing, Staged, Committing}
-use Rattle.code_index.specs.Exports.{export_at, LeadTo, code_word, function_of, KeepsExport, ExportsWith}
+use Rattle.code_index.specs.Exports.{export_at, LeadTo, code_word, function_ref_of, KeepsExport, ExportsWith}
 use Rattle.code_index.specs.Staging.{Stages, block_of}
 use Rattle.code_index.proofs.Indices.{index_apart, index_within}
 
@@ -50,12 +50,12 @@ keeps_word p q entry word keeps leads =
     by_export q (slice_get q.state.exports entry) word
     ∙ leads_still p q (export_at q entry) word keeps.placed (ap (λ o. leads_by p o word) keeps.same ∙ sym (by_export p (slice_get p.state.exports entry) word) ∙ leads)
 
-leads_there : (q : Published) (to : Option CodeRef) → ((at : CodeRef) → to ≡ Some at → Among q.areas at.area) → leads_by q (option_map function_of to) (code_word to) ≡ true
+leads_there : (q : Published) (to : Option CodeRef) → ((at : CodeRef) → to ≡ Some at → Among q.areas at.area) → leads_by q (option_map function_ref_of to) (code_word to) ≡ true
 leads_there q None placed = refl
 leads_there q (Some at) placed =
     let among = placed at refl in
-    let here : leads_to (function_of at) at.area (1 + at.area.block * 16 + at.function) ≡ true = grind (arith, nat_tests) in
-    some_passes (λ (a : AreaRef). leads_to (function_of at) a (1 + at.area.block * 16 + at.function)) q.areas among.0 at.area among.1 here
+    let here : leads_to (function_ref_of at) at.area (1 + at.area.block * 16 + at.function) ≡ true = grind (arith, nat_tests) in
+    some_passes (λ (a : AreaRef). leads_to (function_ref_of at) a (1 + at.area.block * 16 + at.function)) q.areas among.0 at.area among.1 here
 
 -- the word that is stored for a name leads it to the function
 pub sets_word : (p q : Published) (entry : ℕ) (to : Option CodeRef) → ExportsWith entry to p q → is_code_word q (slice_get q.state.exports entry) (code_word to) ≡ true

@@ -7,12 +7,12 @@ use Rattle.term_core.specs.declared.generation.Generation.{Generation}
 use Rattle.area_core.specs.declared.table.Published.{Published}
 use Rattle.area_core.specs.declared.table.KeptArea.{KeptArea}
 use Rattle.area_core.specs.Map.{word_at}
-use Rattle.area_core.specs.Blocks.{Among, InstancesPlaced, BreakpointsStand, term_words, UsedAreKept, FitsBlock, ImageStands, AreaStands, KeptApart}
+use Rattle.area_core.specs.Blocks.{Among, InstancesPlaced, BreakpointsStand, term_blocks_words, UsedAreKept, FitsBlock, ImageStands, AreaStands, KeptApart}
 use Rattle.area_core.specs.Terms.{TermsStand}
 use Rattle.area_core.specs.Roots.{fresh_areas}
 use Rattle.area_core.specs.Step.{to_publish}
 use Rattle.shared_words.specs.declared.view.WriterView.{WriterView}
-use Rattle.shared_words.specs.Views.{newest}
+use Rattle.shared_words.specs.Views.{newest_number}
 use Rattle.shared_words.specs.Kinds.{counter_kept}
 use Rattle.shared_words.specs.Rule.{OldStays, RetiredStays}
 use Rattle.shared_words.specs.Publishing.{kept_next, AreasGoOn, with_next}
@@ -38,13 +38,13 @@ pub record MayCommit (Served : Published → Type 0) (x : Staging) (w : WriterVi
   pub areas_go_on : AreasGoOn w p
   pub placed : InstancesPlaced p
   pub breakpoints : BreakpointsStand (word_at w.words) p
-  pub terms : TermsStand (term_words (word_at w.words) p.root) p
+  pub terms : TermsStand (term_blocks_words (word_at w.words) p.root) p
   pub used : UsedAreKept (kept_next w p) p
   pub areas : (k : KeptArea) → Among (kept_next w p) k → AreaStands (word_at w.words) k (length w.published) p
   -- the areas that it is the first to use have room, their images, and words that are right in the newest generation too
   pub fit : (k : KeptArea) → Among (fresh_areas w.kept p) k → FitsBlock k
   pub images : (k : KeptArea) → Among (fresh_areas w.kept p) k → ImageStands (word_at w.words) k
-  pub fresh : (k : KeptArea) → Among (fresh_areas w.kept p) k → AreaStands (word_at w.words) k (newest w.published) (newest_of w)
+  pub fresh : (k : KeptArea) → Among (fresh_areas w.kept p) k → AreaStands (word_at w.words) k (newest_number w.published) (newest_of w)
   pub apart : KeptApart (kept_next w p)
 
 -- ---- the wait

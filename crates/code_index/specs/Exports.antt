@@ -26,8 +26,8 @@ code_word None = 0
 code_word (Some at) = 1 + at.area.block * 16 + at.function
 
 -- the function, by the serial of its instance
-abbrev pub function_of : CodeRef → FunctionRef
-function_of at = record { serial = at.area.serial; function = at.function }
+abbrev pub function_ref_of : CodeRef → FunctionRef
+function_ref_of at = record { serial = at.area.serial; function = at.function }
 
 -- a generation leads a name to what another leads it to, in the same block
 pub record KeepsExport (p q : Published) (entry : ℕ) : Type 0 where
@@ -37,6 +37,6 @@ pub record KeepsExport (p q : Published) (entry : ℕ) : Type 0 where
 -- a generation leads one name to this function, whose instance has its block, and each other name to what another generation
 -- leads it to
 pub record ExportsWith (entry : ℕ) (to : Option CodeRef) (p q : Published) : Type 0 where
-  pub here : export_at q entry ≡ option_map function_of to
+  pub here : export_at q entry ≡ option_map function_ref_of to
   pub placed : (at : CodeRef) → to ≡ Some at → Among q.areas at.area
   pub others : (other : ℕ) → other ≢ entry → KeepsExport p q other

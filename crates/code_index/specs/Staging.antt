@@ -8,7 +8,7 @@ use Rattle.area_core.specs.Map.{word_at}
 use Rattle.area_core.specs.Blocks.{Among}
 use Rattle.area_core.specs.Step.{opening_published}
 use Rattle.shared_words.specs.declared.view.WriterView.{WriterView}
-use Rattle.shared_words.specs.Views.{newest}
+use Rattle.shared_words.specs.Views.{newest_number}
 use Rattle.shared_words.specs.Publishing.{EachMayBeRead}
 use Rattle.progress_words.specs.Needs.{HasTaken}
 use Rattle.progress_words.specs.Roots.{newest_of}
@@ -43,7 +43,7 @@ IsStaged x = (block : ℕ) × (x ≡ Staged block)
 abbrev pub GoesWith : Staging → WriterView → Type 0
 GoesWith Nothing w = Unit {0}
 GoesWith (Staged block) w = block ≡ staging_index w
-GoesWith (Committing block need) w = (block ≡ staging_index w) × HasTaken w (newest w.published) need
+GoesWith (Committing block need) w = (block ≡ staging_index w) × HasTaken w (newest_number w.published) need
 
 -- the staging index leads each name to what this generation exports
 abbrev pub Stages : Staging → Published → WriterView → Type 0

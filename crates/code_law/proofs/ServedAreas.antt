@@ -13,7 +13,7 @@ use Rattle.mod_core.specs.declared.code.Module.{Module}
 use Rattle.mod_core.specs.Module.{IsModule}
 use Rattle.area_core.specs.Step.{empty_generation}
 use Rattle.area_core.specs.Generations.{has_image, has_serial, same_words}
-use Rattle.area_core.specs.Roots.{image_of}
+use Rattle.area_core.specs.Roots.{serial_image}
 use Rattle.server_core.specs.Generations.{function_ref, generation_of, is_current_code, is_old_code, is_serial, kept_area, kept_areas, kept_words, serials_below}
 use Rattle.server_core.specs.ServerState.{Entry, IsInstanceOf, IsOldCode, IsSound, ServerState, code_of, current_of, is_retired, is_same_entry, is_serial_in, old_of}
 use Rattle.change_laws.specs.Breakpoints.{IsLiveCode, KnowsItsCode}
@@ -27,7 +27,7 @@ use Rattle.code_law.proofs.States.{state_of}
 -- ---- images of areas
 
 -- the first image of a serial is found alike
-pub image_same : (areas : List AreaWords) (serial : ℕ) → image_of areas serial ≡ image_among areas serial
+pub image_same : (areas : List AreaWords) (serial : ℕ) → serial_image areas serial ≡ image_among areas serial
 image_same [] serial = refl
 image_same (a ∷ areas) serial = ap (λ (o : Option (List ℕ)). if a.serial == serial then Some a.words else o) (image_same areas serial)
 
@@ -38,19 +38,19 @@ equal_words (x ∷ xs) [] e = absurd (cc)
 equal_words (x ∷ xs) (y ∷ ys) e = let parts = and_parts (x == y) (same_words xs ys) e in (λ i. eqb-true x y parts.0 i ∷ equal_words xs ys parts.1 i)
 
 -- among more areas the first ones come first
-image_more : (xs ys : List AreaWords) (q : ℕ) (words : List ℕ) → image_of xs q ≡ Some words → image_of (xs ++ ys) q ≡ Some words
+image_more : (xs ys : List AreaWords) (q : ℕ) (words : List ℕ) → serial_image xs q ≡ Some words → serial_image (xs ++ ys) q ≡ Some words
 image_more [] ys q words e = absurd (cc)
 image_more (a ∷ xs) ys q words e = choose (a.serial == q) e (image_more xs ys q words)
   where
-    choose : (b : Bool) → (if b then Some a.words else image_of xs q) ≡ Some words → (image_of xs q ≡ Some words → image_of (xs ++ ys) q ≡ Some words) → (if b then Some a.words else image_of (xs ++ ys) q) ≡ Some words
+    choose : (b : Bool) → (if b then Some a.words else serial_image xs q) ≡ Some words → (serial_image xs q ≡ Some words → serial_image (xs ++ ys) q ≡ Some words) → (if b then Some a.words else serial_image (xs ++ ys) q) ≡ Some words
     choose true e more = e
     choose false e more = more e
 
-image_behind : (xs ys : List AreaWords) (q : ℕ) → image_of xs q ≡ None → image_of (xs ++ ys) q ≡ image_of ys q
+image_behind : (xs ys : List AreaWords) (q : ℕ) → serial_image xs q ≡ None → serial_image (xs ++ ys) q ≡ serial_image ys q
 image_behind [] ys q e = refl
 image_behind (a ∷ xs) ys q e = choose (a.serial == q) e (image_behind xs ys q)
   where
-    choose : (b : Bool) → (if b then Some a.words else image_of xs q) ≡ None → (image_of xs q ≡ None → image_of (xs ++ ys) q ≡ image_of ys q) → (if b then Some a.words else image_of (xs ++ ys) q) ≡ image_of ys q
+    choose : (b : Bool) → (if b then Some a.words else serial_image xs q) ≡ None → (serial_image xs q ≡ None → serial_image (xs ++ ys) q ≡ serial_image ys q) → (if b then Some a.words else serial_image (xs ++ ys) q) ≡ serial_image ys q
     choose true e more = absurd (cc)
     choose false e more = more e
 
@@ -68,7 +68,7 @@ any_append test (x ∷ xs) ys e =
 
 module _ (s : ServerState) where
   -- one area, if it is kept
-  one_image : (n q : ℕ) (o : Option (List ℕ)) (words : List ℕ) → has_image (option_to_list (option_map (λ w. record { serial = n; words = w }) o)) q words ≡ true → (n ≡ q) × (image_of (option_to_list (option_map (λ w. record { serial = n; words = w }) o)) q ≡ Some words)
+  one_image : (n q : ℕ) (o : Option (List ℕ)) (words : List ℕ) → has_image (option_to_list (option_map (λ w. record { serial = n; words = w }) o)) q words ≡ true → (n ≡ q) × (serial_image (option_to_list (option_map (λ w. record { serial = n; words = w }) o)) q ≡ Some words)
   one_image n q None words e = absurd (cc)
   one_image n q (Some w) words e =
       elim (or_cases ((n == q) && same_words w words) false e) as (λ _. (n ≡ q) × ((if n == q then Some w else None) ≡ Some words)) [
@@ -78,7 +78,7 @@ module _ (s : ServerState) where
         | inr none ↦ absurd (true≢false (sym none))
       ]
 
-  apart_none : (n q : ℕ) (o : Option (List ℕ)) → n < q → image_of (option_to_list (option_map (λ w. record { serial = n; words = w }) o)) q ≡ None
+  apart_none : (n q : ℕ) (o : Option (List ℕ)) → n < q → serial_image (option_to_list (option_map (λ w. record { serial = n; words = w }) o)) q ≡ None
   apart_none n q None less = refl
   apart_none n q (Some w) less = choose n q (Some w) less
     where
@@ -86,16 +86,16 @@ module _ (s : ServerState) where
       choose n q o less = grind (arith, nat_tests)
 
   -- no area has a serial from this one on
-  none_above : (n q : ℕ) → n ≤ q → image_of (kept_areas s n) q ≡ None
+  none_above : (n q : ℕ) → n ≤ q → serial_image (kept_areas s n) q ≡ None
   none_above zero q le = refl
   none_above (suc n) q le =
       image_behind (kept_areas s n) (option_to_list (kept_area s n)) q (none_above n q (omega arith)) ∙ apart_none n q (kept_words s n) (omega arith)
 
   -- and each has one image
-  one_each : (n q : ℕ) (words : List ℕ) → has_image (kept_areas s n) q words ≡ true → image_of (kept_areas s n) q ≡ Some words
+  one_each : (n q : ℕ) (words : List ℕ) → has_image (kept_areas s n) q words ≡ true → serial_image (kept_areas s n) q ≡ Some words
   one_each zero q words e = absurd (cc)
   one_each (suc n) q words e =
-      elim (any_append (λ (a : AreaWords). (a.serial == q) && same_words a.words words) (kept_areas s n) (option_to_list (kept_area s n)) e) as (λ _. image_of (kept_areas s (suc n)) q ≡ Some words) [
+      elim (any_append (λ (a : AreaWords). (a.serial == q) && same_words a.words words) (kept_areas s n) (option_to_list (kept_area s n)) e) as (λ _. serial_image (kept_areas s (suc n)) q ≡ Some words) [
         | inl first ↦ image_more (kept_areas s n) (option_to_list (kept_area s n)) q words (one_each n q words first)
         | inr last ↦
             let one = one_image n q (kept_words s n) words last in
@@ -103,7 +103,7 @@ module _ (s : ServerState) where
             image_behind (kept_areas s n) (option_to_list (kept_area s n)) q (none_above n q (omega (arith, same))) ∙ one.1
       ]
 
-  known_serial : (n q : ℕ) (words : List ℕ) → image_of (kept_areas s n) q ≡ Some words → q < n
+  known_serial : (n q : ℕ) (words : List ℕ) → serial_image (kept_areas s n) q ≡ Some words → q < n
   known_serial n q words e =
       elim (cases_lt q n) as (λ _. q < n) [
         | inl less ↦ less
@@ -221,14 +221,14 @@ module _ (names : List Mfa) (g : Generation) (served : IsOfServer names g) where
       ]
 
   -- it has one image of each serial
-  pub images_once : (serial : ℕ) (image : List ℕ) → has_image g.areas serial image ≡ true → image_of g.areas serial ≡ Some image
+  pub images_once : (serial : ℕ) (image : List ℕ) → has_image g.areas serial image ≡ true → serial_image g.areas serial ≡ Some image
   images_once serial image =
-      by_state (λ (x : Generation). has_image x.areas serial image ≡ true → image_of x.areas serial ≡ Some image) (λ e. absurd (true≢false (sym e))) (λ s sound narrow knows. one_each s s.next_serial serial image)
+      by_state (λ (x : Generation). has_image x.areas serial image ≡ true → serial_image x.areas serial ≡ Some image) (λ e. absurd (true≢false (sym e))) (λ s sound narrow knows. one_each s s.next_serial serial image)
 
   -- which has room in an anchor
-  pub serial_fits : (serial : ℕ) (image : List ℕ) → image_of g.areas serial ≡ Some image → serial < 2 ^ 62
+  pub serial_fits : (serial : ℕ) (image : List ℕ) → serial_image g.areas serial ≡ Some image → serial < 2 ^ 62
   serial_fits serial image =
-      by_state (λ (x : Generation). image_of x.areas serial ≡ Some image → serial < 2 ^ 62) (λ e. absurd (cc))
+      by_state (λ (x : Generation). serial_image x.areas serial ≡ Some image → serial < 2 ^ 62) (λ e. absurd (cc))
       (λ s sound narrow knows e. less serial s.next_serial (2 ^ 62) (known_serial s s.next_serial serial image e) narrow)
     where
       less : (a b d : ℕ) → a < b → b ≤ d → a < d
@@ -250,7 +250,7 @@ module _ (names : List Mfa) (g : Generation) (served : IsOfServer names g) where
       (λ s sound narrow knows. record { traced = none_traced names s sound knows; kept = functions_listed names s sound knows })
 
   -- the image of an instance begins with its serial
-  pub begins_with : (serial : ℕ) (image : List ℕ) → 0 < (reads_in names g).functions serial → image_of g.areas serial ≡ Some image → slice_get image 0 ≡ Some serial
+  pub begins_with : (serial : ℕ) (image : List ℕ) → 0 < (reads_in names g).functions serial → serial_image g.areas serial ≡ Some image → slice_get image 0 ≡ Some serial
   begins_with serial image count there =
       let h = state_of names g served in
       let s = h.state in

@@ -11,7 +11,7 @@ use Rattle.server_core.specs.ServerState.{Entry, IsSound, ServerState, dispatch_
 use Rattle.server_core.proofs.EmptyState.{empty_sound}
 use Rattle.change_laws.specs.Breakpoints.{KnowsItsCode}
 use Rattle.change_laws.proofs.KnownCode.{empty_knows}
-use Rattle.machine_core.specs.GenerationReads.{exported, found_held, holding_among, place_within, reads_in, shown_in, words_in}
+use Rattle.machine_core.specs.GenerationReads.{exported_under, found_held, holding_among, place_within, reads_in, shown_in, words_in}
 use Rattle.machine_core.specs.Process.{PlainProcess}
 use Rattle.machine_core.specs.Reads.{Reads, dispatched, found_of}
 use Rattle.machine_core.specs.Turn.{ArePlaced, held_after, turn_by}
@@ -40,7 +40,7 @@ pub record HasState (names : List Mfa) (g : Generation) : Type 0 where
   pub reads : reads_in names g ≡ reads_in names (generation_of names state)
   pub words : words_in g ≡ words_in (generation_of names state)
   pub keys : g.keys ≡ (generation_of names state).keys
-  pub calls : (to : Mfa) → exported names g to ≡ exported names (generation_of names state) to
+  pub calls : (to : Mfa) → exported_under names g to ≡ exported_under names (generation_of names state) to
   pub of : (g ≡ generation_of names state) ⊎ ((g ≡ empty_generation) × (state ≡ empty_state))
 
 of_state : (names : List Mfa) (g : Generation) → IsOfState names g → HasState names g
@@ -54,7 +54,7 @@ of_state names g h =
       reads = ap (reads_in names) h.is;
       words = ap words_in h.is;
       keys = ap (λ (x : Generation). x.keys) h.is;
-      calls = λ to. ap (λ (x : Generation). exported names x to) h.is;
+      calls = λ to. ap (λ (x : Generation). exported_under names x to) h.is;
       of = inl h.is;
     }
 
@@ -68,7 +68,7 @@ no_exports [] n = refl
 no_exports (to ∷ names) zero = refl
 no_exports (to ∷ names) (suc n) = no_exports names n
 
-both_none : (names : List Mfa) (to : Mfa) → exported names empty_generation to ≡ exported names (generation_of names empty_state) to
+both_none : (names : List Mfa) (to : Mfa) → exported_under names empty_generation to ≡ exported_under names (generation_of names empty_state) to
 both_none names to =
     none_exported names to [] (λ n. refl) (number_of_name names to)
     ∙ sym (none_exported names to (generation_of names empty_state).exports (no_exports names) (number_of_name names to))
@@ -88,7 +88,7 @@ of_empty names g is =
       reads = ap (reads_in names) is ∙ empty_reads names;
       words = ap words_in is;
       keys = ap (λ (x : Generation). x.keys) is;
-      calls = λ to. ap (λ (x : Generation). exported names x to) is ∙ both_none names to;
+      calls = λ to. ap (λ (x : Generation). exported_under names x to) is ∙ both_none names to;
       of = inr (is, refl);
     }
 
@@ -120,7 +120,7 @@ served_turn names g served p placed =
     }
 
 -- what a call reaches is what the export table has at the number of the name
-pub served_calls : (names : List Mfa) (g : Generation) → IsOfServer names g → (to : Mfa) → dispatched (reads_in names g) to ≡ option_map entry_ref (exported names g to)
+pub served_calls : (names : List Mfa) (g : Generation) → IsOfServer names g → (to : Mfa) → dispatched (reads_in names g) to ≡ option_map entry_ref (exported_under names g to)
 served_calls names g served to =
     let h = state_of names g served in
     ap (λ (r : Reads). dispatched r to) h.reads ∙ dispatched_is names h.state h.sound h.numbered to

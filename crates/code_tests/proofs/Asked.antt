@@ -8,10 +8,10 @@ use Rattle.term_core.specs.declared.area.AreaRef.{AreaRef}
 use Rattle.term_core.specs.declared.generation.FunctionRef.{FunctionRef}
 use Rattle.area_core.specs.declared.table.Published.{Published}
 use Rattle.area_core.specs.Blocks.{Among}
-use Rattle.area_core.specs.Generations.{has_function, has_image, is_current, is_instance, is_retired, is_traced, same_words}
+use Rattle.area_core.specs.Generations.{has_function, has_image, is_current, is_instance, is_retired_area, is_traced_function, same_words}
 use Rattle.shared_words.specs.declared.view.MemberView.{MemberView}
 use Rattle.shared_words.specs.Processes.{held_by_view}
-use Rattle.shared_words.specs.Rule.{AreApart}
+use Rattle.shared_words.specs.Rule.{AreAreasApart}
 use Rattle.shared_words.specs.Seats.{IsRooted}
 use Rattle.breakpoints.specs.Decisions.{MayDecide}
 use Rattle.code_tests.specs.Switching.{image, published_with, the_area, the_function}
@@ -46,13 +46,13 @@ may_ask root bp traced m awake rooted is = record {
   awake = awake;
   rooted = rooted;
   listed = subst (λ (p : Published). Among p.areas the_area) (sym is) (0, refl);
-  apart = subst AreApart (sym is) (λ a c at_a at_c serial. one_area bp traced a at_a ∙ sym (one_area bp traced c at_c));
+  apart = subst AreAreasApart (sym is) (λ a c at_a at_c serial. one_area bp traced a at_a ∙ sym (one_area bp traced c at_c));
   placed = record { first = omega (arith); last = omega (arith) };
   few = omega (arith);
   has = subst (λ (p : Published). (words : List ℕ) → IsTrue (has_image p.state.areas 1 words) → IsTrue (has_function (record { area = the_area; words = words }) 0)) (sym is) has_it;
   come = inl (subst (λ (p : Published). IsTrue (is_current p 1)) (sym is) refl);
-  live = subst (λ (p : Published). is_retired p 1 ≡ false → IsTrue (is_instance p 1)) (sym is) (λ e. refl);
-  gone = subst (λ (p : Published). is_retired p 1 ≡ true → is_traced p 1 0 ≡ false) (sym is) (λ e. absurd (never e));
+  live = subst (λ (p : Published). is_retired_area p 1 ≡ false → IsTrue (is_instance p 1)) (sym is) (λ e. refl);
+  gone = subst (λ (p : Published). is_retired_area p 1 ≡ true → is_traced_function p 1 0 ≡ false) (sym is) (λ e. absurd (never e));
 }
   where
     never : false ≡ true → ⊥

@@ -6,7 +6,7 @@ use Rattle.atomic_table.specs.Seated.{TableId}
 use Rattle.area_core.specs.declared.table.KeptArea.{KeptArea}
 use Rattle.area_core.specs.declared.table.Published.{Published}
 use Rattle.area_core.specs.Blocks.{Among, FitsBlock, IsForInstances, KeptApart}
-use Rattle.area_core.specs.Generations.{is_traced}
+use Rattle.area_core.specs.Generations.{is_traced_function}
 use Rattle.area_core.specs.Map.{breakpoint_at, breakpoint_place, kind_at}
 use Rattle.area_core.specs.Step.{opening_published}
 use Rattle.area_core.proofs.BlockStores.{same_block}
@@ -15,7 +15,7 @@ use Rattle.shared_words.specs.declared.seats.Member as tokens
 use Rattle.shared_words.specs.declared.view.WriterView.{WriterView}
 use Rattle.shared_words.specs.Notes.{with_note}
 use Rattle.shared_words.specs.Publishing.{IsRootOf, MayPublish, with_next, with_word}
-use Rattle.shared_words.specs.Views.{newest}
+use Rattle.shared_words.specs.Views.{newest_number}
 use Rattle.progress_words.specs.Roots.{newest_of}
 use Rattle.breakpoints.specs.declared.patch.Patch.{Patch}
 use Rattle.breakpoints.specs.declared.patch.Phase.TheVariants.{Begun}
@@ -26,7 +26,7 @@ use Rattle.breakpoints.proofs.AtFirst.{rest_at_first}
 use Rattle.breakpoints.proofs.Others.{others_keep}
 use Rattle.breakpoints.proofs.Roots.{roots_keep}
 use Rattle.breakpoints.proofs.Spots.{decision_kind}
-use Rattle.code_tests.specs.Switching.{HasLearnt, IsAt, IsBlank, IsSettled, IsSwitched, IsUnswitched, IsUntraced, IsWritten, newest_after, newest_before, notes_to, published_to, published_with, the_function, the_kept}
+use Rattle.code_tests.specs.Switching.{HasLearnt, IsAt, IsBlank, IsSettled, IsSwitched, IsUnswitched, IsUntraced, IsWritten, newest_after, newest_before, notes_to, published_up_to, published_with, the_function, the_kept}
 use Rattle.code_tests.proofs.MayBegin.{fits, kept_is, may_publish_one, one_fresh, placed, untraced_next}
 use Rattle.code_tests.proofs.MayTrace.{listed_before, never, none_at, one_apart}
 use Rattle.code_tests.proofs.MayWrite.{written_now}
@@ -71,7 +71,7 @@ module _ (w : WriterView) (h : IsWritten w) where
     placed = placed w h;
     instances = λ a among instance. inr (λ k kept same. none_at kept.0 (ap (λ (xs : List KeptArea). slice_get xs kept.0) (sym h.kept) ∙ kept.1));
     fewer = λ serial function traced. absurd (never traced);
-    same = λ serial function instance. ap (λ (p : Published). is_traced p serial function) (sym first_is);
+    same = λ serial function instance. ap (λ (p : Published). is_traced_function p serial function) (sym first_is);
     fresh = λ k among. subst FitsBlock (sym (one_fresh w h k among)) fits;
     apart = subst KeptApart (sym (kept_is w h)) (one_apart the_kept);
     untraced = λ k function among. refl;
@@ -110,7 +110,7 @@ module _ (process : ℕ) (w : WriterView) where
   noted_at generations h = record { published = h.published; kept = h.kept; words = record { all = h.words.all; count = h.words.count; others = h.words.others } }
 
   switched_noted : (x : Patch) → IsSwitched x w → IsSwitched x (with_note process w)
-  switched_noted x h = record { at = h.at; phase = h.phase; patch = (others_keep w (with_note process w) note_leaves).1 x h.patch; stands = noted_at (published_to (newest_after x.on)) h.stands }
+  switched_noted x h = record { at = h.at; phase = h.phase; patch = (others_keep w (with_note process w) note_leaves).1 x h.patch; stands = noted_at (published_up_to (newest_after x.on)) h.stands }
 
 rests_told : (process : ℕ) (w v : WriterView) → v ≡ with_note process w → BreakpointsRest w → BreakpointsRest v
 rests_told process w v is rest = subst BreakpointsRest (sym is) (rests_noted process w rest)
@@ -119,21 +119,21 @@ pub switched_told : (process : ℕ) (x : Patch) (w v : WriterView) → v ≡ wit
 switched_told process x w v is h = subst (IsSwitched x) (sym is) (switched_noted process w x h)
 
 -- the note is the next one
-pub noted_next : (newest_one process : ℕ) (w v : WriterView) → process ≡ newest_one → v ≡ with_note process w → newest w.published ≡ suc newest_one → w.notes ≡ notes_to newest_one → v.notes ≡ notes_to (suc newest_one)
+pub noted_next : (newest_one process : ℕ) (w v : WriterView) → process ≡ newest_one → v ≡ with_note process w → newest_number w.published ≡ suc newest_one → w.notes ≡ notes_to newest_one → v.notes ≡ notes_to (suc newest_one)
 noted_next newest_one process w v same is last had = ap (λ (u : WriterView). u.notes) is ∙ (λ i. had i ++ record { process = same i; published = last i } ∷ [])
 
 -- once the member was told of the instance no patch is under way, and it knows of all
-pub settled_first : (table : TableId) (token : tokens.Member) (w v : WriterView) → v ≡ with_note 0 w → HasLearnt table (published_to 1) token → IsUntraced w → BreakpointsRest w → w.notes ≡ [] → IsSettled table 1 token v
+pub settled_first : (table : TableId) (token : tokens.Member) (w v : WriterView) → v ≡ with_note 0 w → HasLearnt table (published_up_to 1) token → IsUntraced w → BreakpointsRest w → w.notes ≡ [] → IsSettled table 1 token v
 settled_first table token w v is learnt h rest none = record {
   learnt = learnt;
-  stands = subst (IsAt (published_to 1)) (sym is) (noted_at 0 w (published_to 1) h);
+  stands = subst (IsAt (published_up_to 1)) (sym is) (noted_at 0 w (published_up_to 1) h);
   rest = rests_told 0 w v is rest;
-  notes = noted_next 0 0 w v refl is (ap (λ (xs : List Published). newest xs) h.published) none;
+  notes = noted_next 0 0 w v refl is (ap (λ (xs : List Published). newest_number xs) h.published) none;
 }
 
 -- ---- the patch
 
-pub patchable : (on : Bool) (w : WriterView) → IsAt (published_to (newest_before on)) w → IsPatchable w the_function
+pub patchable : (on : Bool) (w : WriterView) → IsAt (published_up_to (newest_before on)) w → IsPatchable w the_function
 patchable on w h =
     let listed = listed_before on w h in record {
       area = the_kept;
@@ -144,9 +144,9 @@ patchable on w h =
       instance = listed.1;
     }
 
-pub unswitched_begun : (on : Bool) (newest_one : ℕ) (x : Patch) (w : WriterView) → x ≡ record { at = the_function; on = on; phase = Begun } → newest_one ≡ newest_before on → IsAt (published_to newest_one) w → BreakpointsRest w → IsUnswitched x w
+pub unswitched_begun : (on : Bool) (newest_one : ℕ) (x : Patch) (w : WriterView) → x ≡ record { at = the_function; on = on; phase = Begun } → newest_one ≡ newest_before on → IsAt (published_up_to newest_one) w → BreakpointsRest w → IsUnswitched x w
 unswitched_begun on newest_one x w is same h rest =
-    let stands = subst (λ (n : ℕ). IsAt (published_to n) w) same h in
+    let stands = subst (λ (n : ℕ). IsAt (published_up_to n) w) same h in
     subst (λ (y : Patch). IsUnswitched y w) (sym is) (record { at = refl; phase = tt; patch = (rest, patchable on w stands); stands = stands })
 
 -- ---- both stores, one after the other

@@ -14,7 +14,7 @@ use Rattle.breakpoints.specs.declared.patch.Phase.TheVariants.{Begun, Staged, En
 use Rattle.breakpoints.specs.Indices.{BreakpointsRest}
 use Rattle.breakpoints.specs.Patches.{HasPatched, IsPatchOf, IsSettling, IsUnpublished, MovesTo, PhaseStands, Switches}
 use Rattle.breakpoints.specs.Switched.{MaySwitch, PatchAnswers, PatchEnds, PatchMoves, PatchSwitches, PatchWaits, switched_over}
-use Rattle.code_tests.specs.Switching.{IsAt, IsSwitched, IsUnswitched, generation_with, newest_after, newest_before, published_to, switched_to, the_area, the_kept, traced_if}
+use Rattle.code_tests.specs.Switching.{IsAt, IsSwitched, IsUnswitched, generation_with, newest_after, newest_before, published_up_to, switched_to, the_area, the_kept, traced_if}
 use Rattle.code_tests.proofs.MayTrace.{all_stays, may_switch, switched_is}
 
 -- ---- phases
@@ -47,11 +47,11 @@ no_root on a settling due = settling
 
 -- ---- how many generations there are
 
-few_before : (on : Bool) → length (published_to (newest_before on)) < 2 ^ 40
+few_before : (on : Bool) → length (published_up_to (newest_before on)) < 2 ^ 40
 few_before true = omega (arith)
 few_before false = omega (arith)
 
-few_after : (on : Bool) → length (published_to (newest_after on)) < 2 ^ 40
+few_after : (on : Bool) → length (published_up_to (newest_after on)) < 2 ^ 40
 few_after true = omega (arith)
 few_after false = omega (arith)
 
@@ -59,7 +59,7 @@ none_more : (on : Bool) → the_kept ∷ fresh_areas (the_kept ∷ []) (switched
 none_more true = refl
 none_more false = refl
 
-one_more : (on : Bool) → published_to (newest_before on) ++ switched_to on ∷ [] ≡ published_to (newest_after on)
+one_more : (on : Bool) → published_up_to (newest_before on) ++ switched_to on ∷ [] ≡ published_up_to (newest_after on)
 one_more true = refl
 one_more false = refl
 
@@ -75,9 +75,9 @@ module _ (x : Patch) (w : WriterView) (h : IsUnswitched x w) where
   pub room_before : length w.published < 2 ^ 40
   room_before = subst (λ (xs : List Published). length xs < 2 ^ 40) (sym h.stands.published) (few_before x.on)
 
-  stays_before : (y : Patch) (v : WriterView) → y.on ≡ x.on → HasPatched x.at w v → IsAt (published_to (newest_before y.on)) v
+  stays_before : (y : Patch) (v : WriterView) → y.on ≡ x.on → HasPatched x.at w v → IsAt (published_up_to (newest_before y.on)) v
   stays_before y v on patched =
-      subst (λ (b : Bool). IsAt (published_to (newest_before b)) v) (sym on) (all_stays (published_to (newest_before x.on)) w v (subst (λ f. HasPatched f w v) h.at patched) h.stands)
+      subst (λ (b : Bool). IsAt (published_up_to (newest_before b)) v) (sym on) (all_stays (published_up_to (newest_before x.on)) w v (subst (λ f. HasPatched f w v) h.at patched) h.stands)
 
   moved_on : (y : Patch) (v : WriterView) → y.at ≡ x.at → y.on ≡ x.on → IsPatchOf y v → PatchMoves x y w v → IsUnswitched y v
   moved_on y v at on patch moves = record { at = at ∙ h.at; phase = moves_before x.on x.phase y.phase h.phase moves.next; patch = patch; stands = stays_before y v on moves.patched }
@@ -87,14 +87,14 @@ module _ (x : Patch) (w : WriterView) (h : IsUnswitched x w) where
 
   switched : (y : Patch) (v : WriterView) (generation : ℕ) → y.at ≡ x.at → y.on ≡ x.on → IsPatchOf y v → PatchSwitches x y (switched_over w (generation_with (traced_if x.on)) (the_area ∷ [])) w v generation → IsSwitched y v
   switched y v generation at on patch switches =
-      let waited = all_stays (published_to (newest_before x.on)) w switches.waited (subst (λ f. HasPatched f w switches.waited) h.at switches.counted) h.stands in
-      let published : v.published ≡ published_to (newest_after x.on) = ap (λ (u : WriterView). u.published) switches.view ∙ (λ i. waited.published i ++ switched_is x.on w h.stands i ∷ []) ∙ one_more x.on in
+      let waited = all_stays (published_up_to (newest_before x.on)) w switches.waited (subst (λ f. HasPatched f w switches.waited) h.at switches.counted) h.stands in
+      let published : v.published ≡ published_up_to (newest_after x.on) = ap (λ (u : WriterView). u.published) switches.view ∙ (λ i. waited.published i ++ switched_is x.on w h.stands i ∷ []) ∙ one_more x.on in
       let kept : v.kept ≡ the_kept ∷ [] = ap (λ (u : WriterView). u.kept) switches.view ∙ (λ i. waited.kept i ++ fresh_areas (waited.kept i) (switched_is x.on w h.stands i)) ∙ none_more x.on in
       let words = ap (λ (u : WriterView). u.words) switches.view in record {
         at = at ∙ h.at;
         phase = subst IsSettling (sym switches.phase) tt;
         patch = patch;
-        stands = subst (λ (b : Bool). IsAt (published_to (newest_after b)) v) (sym on) (record {
+        stands = subst (λ (b : Bool). IsAt (published_up_to (newest_after b)) v) (sym on) (record {
           published = published;
           kept = kept;
           words = record { all = ap (λ (xs : List ℕ). length xs) words ∙ waited.words.all; count = ap (λ (xs : List ℕ). word_at xs (block_place 9 3)) words ∙ waited.words.count; others = λ place off apart beside. ap (λ (xs : List ℕ). word_at xs place) words ∙ waited.words.others place off apart beside };
@@ -124,11 +124,11 @@ module _ (x : Patch) (w : WriterView) (h : IsSwitched x w) where
   pub room_after : length w.published < 2 ^ 40
   room_after = subst (λ (xs : List Published). length xs < 2 ^ 40) (sym h.stands.published) (few_after x.on)
 
-  stays_after : (v : WriterView) → HasPatched x.at w v → IsAt (published_to (newest_after x.on)) v
-  stays_after v patched = all_stays (published_to (newest_after x.on)) w v (subst (λ f. HasPatched f w v) h.at patched) h.stands
+  stays_after : (v : WriterView) → HasPatched x.at w v → IsAt (published_up_to (newest_after x.on)) v
+  stays_after v patched = all_stays (published_up_to (newest_after x.on)) w v (subst (λ f. HasPatched f w v) h.at patched) h.stands
 
-  goes_after : (y : Patch) (v : WriterView) → y.on ≡ x.on → HasPatched x.at w v → IsAt (published_to (newest_after y.on)) v
-  goes_after y v on patched = subst (λ (b : Bool). IsAt (published_to (newest_after b)) v) (sym on) (stays_after v patched)
+  goes_after : (y : Patch) (v : WriterView) → y.on ≡ x.on → HasPatched x.at w v → IsAt (published_up_to (newest_after y.on)) v
+  goes_after y v on patched = subst (λ (b : Bool). IsAt (published_up_to (newest_after b)) v) (sym on) (stays_after v patched)
 
   moved_further : (y : Patch) (v : WriterView) → y.at ≡ x.at → y.on ≡ x.on → IsPatchOf y v → PatchMoves x y w v → IsSwitched y v
   moved_further y v at on patch moves = record { at = at ∙ h.at; phase = moves_after x.on x.phase y.phase h.phase moves.next; patch = patch; stands = goes_after y v on moves.patched }
@@ -148,7 +148,7 @@ module _ (x : Patch) (w : WriterView) (h : IsSwitched x w) where
   pub over_rests : (y : Patch) (p : Published) (v : WriterView) (step : PatchStep) → IsPatchOf y v → PatchAnswers x y p w v step → step ≡ steps.Finished → BreakpointsRest v
   over_rests y p v step patch answers is = let ends : PatchEnds x y w v = subst (PatchAnswers x y p w v) is answers in subst (λ (phase : Phase). PhaseStands y.at y.on phase v) ends.phase patch
 
-  pub over_stands : (y : Patch) (p : Published) (v : WriterView) (step : PatchStep) → PatchAnswers x y p w v step → step ≡ steps.Finished → IsAt (published_to (newest_after x.on)) v
+  pub over_stands : (y : Patch) (p : Published) (v : WriterView) (step : PatchStep) → PatchAnswers x y p w v step → step ≡ steps.Finished → IsAt (published_up_to (newest_after x.on)) v
   over_stands y p v step answers is = let ends : PatchEnds x y w v = subst (PatchAnswers x y p w v) is answers in stays_after v ends.patched
 
 -- ---- notes

@@ -22,7 +22,7 @@ use Rattle.shared_words.specs.declared.opening.Opening.{Opening}
 use Rattle.shared_words.specs.declared.seats.Writer as writers
 use Rattle.shared_words.specs.declared.view.WriterView.{WriterView}
 use Rattle.shared_words.specs.Seats.{writer_of}
-use Rattle.shared_words.specs.Views.{newest, published_at}
+use Rattle.shared_words.specs.Views.{newest_number, published_at}
 use Rattle.shared_words.specs.Kinds.{counter_kept}
 use Rattle.shared_words.specs.Making.{IsHanding, writer_handing}
 use Rattle.shared_words.specs.Publishing.{kept_next, with_next}
@@ -30,12 +30,12 @@ use Rattle.progress_words.specs.Tokens.{written_by}
 use Rattle.progress_words.specs.Roots.{newest_of}
 use Rattle.term_table.specs.declared.change.Change.TheVariants.{Put}
 use Rattle.term_table.specs.Keys.{Lacks, ChangesTo}
-use Rattle.term_table.specs.Built.{held_in, counts}
+use Rattle.term_table.specs.Built.{held_in, key_count}
 use Rattle.term_table.specs.Tables.{Terms, active_table, staging_table, words_in, IsTableOf, Stages}
 use Rattle.term_table.specs.Staged.{HasStaged}
 use Rattle.term_table.specs.Published.{MayPublishTerms, HasPublished, restaged}
 use Rattle.term_table.specs.Laws.{IsElsewhere}
-use Rattle.code_tests.specs.Keyed.{integer_of, keys_to, keyed_over, IsKeyed, HasKeys}
+use Rattle.code_tests.specs.Keyed.{key_integer_word, keys_to, keyed_over, IsKeyed, HasKeys}
 use Rattle.code_tests.proofs.Begun.{begun_first}
 use Rattle.code_tests.proofs.Leading.{got_last}
 
@@ -55,7 +55,7 @@ keys_long zero = refl
 keys_long (suc n) = ap suc (keys_long n)
 
 abbrev key_at : ℕ → KeyTerm
-key_at n = record { key = record { 0 = n }; holding = Word (integer_of n) }
+key_at n = record { key = record { 0 = n }; holding = Word (key_integer_word n) }
 
 -- each is one of the first, and holds its integer
 key_is : (n i : ℕ) (k : KeyTerm) → slice_get (keys_to n) i ≡ Some k → (m : ℕ) × (m < n) × (k ≡ key_at m)
@@ -75,9 +75,9 @@ lacks_next table n k among same =
     absurd (omega (arith, own, same, low))
 
 -- one key more is a change
-changes_next : (before after n : ℕ) → ChangesTo (Put (record { 0 = n }) (integer_of n)) (keyed_over before n) (keyed_over after (suc n))
+changes_next : (before after n : ℕ) → ChangesTo (Put (record { 0 = n }) (key_integer_word n)) (keyed_over before n) (keyed_over after (suc n))
 changes_next before after n = record {
-  here = (Word (integer_of n), record { term = key_at n; among = (0, refl); key_is = refl; holding_is = refl }, each);
+  here = (Word (key_integer_word n), record { term = key_at n; among = (0, refl); key_is = refl; holding_is = refl }, each);
   others = λ k apart. (
     λ among. less k apart among.0 among.1,
     λ among. (suc among.0, among.1),
@@ -85,12 +85,12 @@ changes_next before after n = record {
   placed = λ k serial a among apart holds before_a. absurd (none_among a before_a);
 }
   where
-    each : (k : KeyTerm) → Among (keys_to (suc n)) k → k.key.0 ≡ n → is_term_word (keyed_over after (suc n)) k.holding (integer_of n) ≡ true
+    each : (k : KeyTerm) → Among (keys_to (suc n)) k → k.key.0 ≡ n → is_term_word (keyed_over after (suc n)) k.holding (key_integer_word n) ≡ true
     each k among same =
         let is = key_is (suc n) among.0 k among.1 in
         let own : k.key.0 ≡ is.0 = ap (λ (x : KeyTerm). x.key.0) is.2 in
-        let holds : k.holding ≡ Word (integer_of n) = ap (λ (x : KeyTerm). x.holding) is.2 ∙ ap (λ (m : ℕ). Word (integer_of m)) (sym own ∙ same) in
-        ap (λ (h : Holding). is_term_word (keyed_over after (suc n)) h (integer_of n)) holds ∙ eq-eqb (integer_of n) (integer_of n) refl
+        let holds : k.holding ≡ Word (key_integer_word n) = ap (λ (x : KeyTerm). x.holding) is.2 ∙ ap (λ (m : ℕ). Word (key_integer_word m)) (sym own ∙ same) in
+        ap (λ (h : Holding). is_term_word (keyed_over after (suc n)) h (key_integer_word n)) holds ∙ eq-eqb (key_integer_word n) (key_integer_word n) refl
 
     less : (k : KeyTerm) → k.key.0 ≢ n → (i : ℕ) → slice_get (keys_to (suc n)) i ≡ Some k → Among (keys_to n) k
     less k apart zero at = absurd (apart (let same : key_at n ≡ k = cc in ap (λ (x : KeyTerm). x.key.0) (sym same)))
@@ -123,13 +123,13 @@ pub record IsStill (old new : WriterView) : Type 0 where
 keys_still : (n : ℕ) (old new : WriterView) → IsStill old new → HasKeys n old → HasKeys n new
 keys_still n old new still h = record {
   published = λ p among. h.published p (subst (λ (xs : List Published). Among xs p) still.published among);
-  newest = ap (λ (xs : List Published). published_at xs (newest xs)) still.published ∙ h.newest;
+  newest = ap (λ (xs : List Published). published_at xs (newest_number xs)) still.published ∙ h.newest;
   long = ap (λ (xs : List Published). length xs) still.published ∙ h.long;
   kept = still.kept ∙ h.kept;
   words = λ place off. still.words place off ∙ h.words place off;
 }
 
-module _ (n : ℕ) (t u : Terms) (old new : WriterView) (h : HasKeys n old) (own : IsTableOf t old) (staged : HasStaged (Put (record { 0 = n }) (integer_of n)) t u old new) where
+module _ (n : ℕ) (t u : Terms) (old new : WriterView) (h : HasKeys n old) (own : IsTableOf t old) (staged : HasStaged (Put (record { 0 = n }) (key_integer_word n)) t u old new) where
   still : IsStill old new
   still = record {
     published = ap (λ (w : WriterView). w.published) staged.same ∙ ap (λ (w : WriterView). w.published) staged.loaded.view;
@@ -152,20 +152,20 @@ module _ (n : ℕ) (t u : Terms) (old new : WriterView) (h : HasKeys n old) (own
           absurd (lacks_next (n % 4) n one.0 (subst (λ (p : Published). Among p.state.keys one.0) h.newest (one.1, one.2)) key)
 
   same_staging : staging_table new ≡ staging_table old
-  same_staging = ap (λ (xs : List Published). ((published_at xs (newest xs)).root.term + 1) % 4) still.published
+  same_staging = ap (λ (xs : List Published). ((published_at xs (newest_number xs)).root.term + 1) % 4) still.published
 
   -- one key more stands in the table
   pub counted_next : held_in (words_in new.words (staging_table new)) BUCKETS ≡ length (keys_to (suc n))
   counted_next =
       let more = staged.counted in
       let before : held_in (words_in old.words (active_table old)) BUCKETS ≡ n = own.counted ∙ ap (λ (p : Published). length p.state.keys) h.newest ∙ keys_long n in
-      let none : counts (found_in (words_in old.words (active_table old)) n) ≡ 0 = ap counts found_none in
+      let none : key_count (found_in (words_in old.words (active_table old)) n) ≡ 0 = ap key_count found_none in
       let here : held_in (words_in new.words (staging_table old)) BUCKETS ≡ suc n = omega (arith, more, before, none) in
       ap (λ (table : ℕ). held_in (words_in new.words table) BUCKETS) same_staging ∙ here ∙ sym (keys_long (suc n))
 
   -- what is staged is the next generation's
-  pub stages_next : ((q : Published) → ChangesTo (Put (record { 0 = n }) (integer_of n)) (newest_of old) q → Stages u q new) → (table : ℕ) → Stages u (keyed_over table (suc n)) new
-  stages_next stands table = stands (keyed_over table (suc n)) (subst (λ (p : Published). ChangesTo (Put (record { 0 = n }) (integer_of n)) p (keyed_over table (suc n))) (sym h.newest) (changes_next (n % 4) table n))
+  pub stages_next : ((q : Published) → ChangesTo (Put (record { 0 = n }) (key_integer_word n)) (newest_of old) q → Stages u q new) → (table : ℕ) → Stages u (keyed_over table (suc n)) new
+  stages_next stands table = stands (keyed_over table (suc n)) (subst (λ (p : Published). ChangesTo (Put (record { 0 = n }) (key_integer_word n)) p (keyed_over table (suc n))) (sym h.newest) (changes_next (n % 4) table n))
 
 -- ---- it is published
 
@@ -239,8 +239,8 @@ module _ (n : ℕ) (w : WriterView) (h : HasKeys n w) where
       long : length (w.published ++ next ∷ []) ≡ suc n + 1
       long = let was = h.long in let more = length-append w.published (next ∷ []) in omega (arith, was, more)
 
-      newest_next : published_at (w.published ++ next ∷ []) (newest (w.published ++ next ∷ [])) ≡ next
+      newest_next : published_at (w.published ++ next ∷ []) (newest_number (w.published ++ next ∷ [])) ≡ next
       newest_next =
           let was = h.long in
-          let last : newest (w.published ++ next ∷ []) ≡ length w.published = omega (arith, was, long) in
+          let last : newest_number (w.published ++ next ∷ []) ≡ length w.published = omega (arith, was, long) in
           ap (λ (g : ℕ). published_at (w.published ++ next ∷ []) g) last ∙ ap (λ (o : Option Published). unwrap_or o opening_published) (got_last w.published next)

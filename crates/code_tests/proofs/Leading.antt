@@ -17,7 +17,7 @@ use Rattle.shared_words.specs.Kinds.{MayLead}
 use Rattle.shared_words.specs.Processes.{slot_in, note_in, under_of, AreAtRest}
 use Rattle.shared_words.proofs.SlotFrames.{rests}
 use Rattle.progress_words.specs.Tokens.{view_of, IsMemberOf}
-use Rattle.progress_words.specs.Reports.{Reported}
+use Rattle.progress_words.specs.Reports.{HoldsReported}
 use Rattle.progress_words.specs.Leads.{IsLeader}
 use Rattle.term_table.specs.Looked.{HasRead}
 use Rattle.code_tests.specs.Leading.{IsLeading}
@@ -54,10 +54,10 @@ leading_rests table token leading process =
     let empty : IsAtRest (record opening_process { note = note_in m.notes process }) = record { frames = rest.frames; literals = rest.literals } in
     subst (λ (xs : List ProcessSlot). IsAtRest (record { slot = (slot_in xs process).slot; marks = (slot_in xs process).marks; note = note_in m.notes process })) (sym leading.slots) empty
 
-pub leads_on : (Served : Published → Type 0) (table : TableId) (generation : ℕ) (old mid new : tokens.Member) → IsLeading table old → Reported Served (view_of old) (view_of mid) generation → IsMemberOf table new → IsLeader (view_of new) → (view_of new).slots ≡ (view_of mid).slots → IsLeading table new
+pub leads_on : (Served : Published → Type 0) (table : TableId) (generation : ℕ) (old mid new : tokens.Member) → IsLeading table old → HoldsReported Served (view_of old) (view_of mid) generation → IsMemberOf table new → IsLeader (view_of new) → (view_of new).slots ≡ (view_of mid).slots → IsLeading table new
 leads_on Served table generation old mid new h told of leads kept = record { of = of; leads = leads; slots = kept ∙ ap (λ (m : MemberView). m.slots) told.view ∙ h.slots }
 
-pub leads_on_looking : (Served : Published → Type 0) (table : TableId) (generation : ℕ) (old mid new : tokens.Member) → IsLeading table old → Reported Served (view_of old) (view_of mid) generation → IsLeader (view_of mid) → IsMemberOf table new → HasRead (view_of mid) (view_of new) → IsLeading table new
+pub leads_on_looking : (Served : Published → Type 0) (table : TableId) (generation : ℕ) (old mid new : tokens.Member) → IsLeading table old → HoldsReported Served (view_of old) (view_of mid) generation → IsLeader (view_of mid) → IsMemberOf table new → HasRead (view_of mid) (view_of new) → IsLeading table new
 leads_on_looking Served table generation old mid new h told leads of read = record {
   of = of;
   leads = subst IsLeader (sym read.view) (record { awake = leads.awake; scans = leads.scans; leads = leads.leads; places = leads.places });

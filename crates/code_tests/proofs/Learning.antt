@@ -7,7 +7,7 @@ use Rattle.prgr_core.proofs.Parts.{some_same}
 use Rattle.atomic_table.specs.Seated.{TableId}
 use Rattle.area_core.specs.declared.readers.Slots.TheVariants.{OfMember}
 use Rattle.area_core.specs.declared.table.Published.{Published}
-use Rattle.area_core.specs.Readers.{is_of}
+use Rattle.area_core.specs.Readers.{is_slot_of}
 use Rattle.shared_words.specs.declared.opening.Opening.{Opening}
 use Rattle.shared_words.specs.declared.seats.Member as tokens
 use Rattle.shared_words.specs.declared.seats.Writer as writers
@@ -19,17 +19,17 @@ use Rattle.shared_words.specs.Making.{AreMembersBegun, IsHanding, IsMemberBegun}
 use Rattle.shared_words.specs.Notes.{MaySplitNote, longer, note_begun, note_joined}
 use Rattle.shared_words.specs.Processes.{held_by_view}
 use Rattle.shared_words.specs.Seats.{IsRooted, member_of, writer_of}
-use Rattle.shared_words.specs.Views.{newest, published_at}
+use Rattle.shared_words.specs.Views.{newest_number, published_at}
 use Rattle.progress_words.specs.declared.answers.Advance.{Advance}
 use Rattle.progress_words.specs.declared.answers.Advance.TheVariants.{Advanced, Behind, Delayed, AtEnd}
 use Rattle.progress_words.specs.declared.answers.Lead.{Lead}
 use Rattle.progress_words.specs.Advances.{HasLooked, view_after, with_counter, words_found}
 use Rattle.progress_words.specs.Leads.{HasTried, IsLeader}
-use Rattle.progress_words.specs.Reports.{IsAwake, Reported}
+use Rattle.progress_words.specs.Reports.{IsAwake, HoldsReported}
 use Rattle.progress_words.specs.Tokens.{view_of, written_by, IsMemberOf, IsSameMember}
 use Rattle.breakpoints.specs.Decisions.{HasLookedUp, MayDecide}
 use Rattle.code_tests.specs.Leading.{IsLeading}
-use Rattle.code_tests.specs.Switching.{HasLearnt, IsBlank, notes_to, only_function, published_to, the_function}
+use Rattle.code_tests.specs.Switching.{HasLearnt, IsBlank, notes_to, only_function, published_up_to, the_function}
 use Rattle.code_tests.proofs.Asked.{may_ask}
 use Rattle.code_tests.proofs.Begun.{begun_first}
 use Rattle.code_tests.proofs.Leading.{got_last}
@@ -91,10 +91,10 @@ may_note newest_one process w few same had = record {
 }
 
 -- each process is one of the only member
-pub own_process : (number count process : ℕ) → number ≡ 0 → count ≡ 1 → IsTrue (is_of (OfMember number count) process)
-own_process number count process first one = subst (λ (z : ℕ × ℕ). IsTrue (is_of (OfMember z.0 z.1) process)) (λ i. (sym first i, sym one i)) (of_one process)
+pub own_process : (number count process : ℕ) → number ≡ 0 → count ≡ 1 → IsTrue (is_slot_of (OfMember number count) process)
+own_process number count process first one = subst (λ (z : ℕ × ℕ). IsTrue (is_slot_of (OfMember z.0 z.1) process)) (λ i. (sym first i, sym one i)) (of_one process)
   where
-    of_one : (p : ℕ) → IsTrue (is_of (OfMember 0 1) p)
+    of_one : (p : ℕ) → IsTrue (is_slot_of (OfMember 0 1) p)
     of_one p = let none : p % 1 ≡ 0 = omega (arith) in rw none refl
 
 longer_is : (mine other : List Published) → length mine < length other → longer mine other ≡ other
@@ -115,7 +115,7 @@ leads_learnt table n old new h of joined = record {
 -- ---- a report
 
 -- a generation that the member knew of already is the newest one: it has learnt of nothing more
-reported_seen : (Served : Published → Type 0) (seen : List Published) (old new : MemberView) (generation : ℕ) → Reported Served old new generation → old.seen ≡ seen → length seen ≡ generation + 1 → new.seen ≡ seen
+reported_seen : (Served : Published → Type 0) (seen : List Published) (old new : MemberView) (generation : ℕ) → HoldsReported Served old new generation → old.seen ≡ seen → length seen ≡ generation + 1 → new.seen ≡ seen
 reported_seen Served seen old new generation told had long =
     let rest : List Published = told.learnt.0 in
     let more : new.seen ≡ seen ++ rest = told.learnt.1 ∙ ap (λ (xs : List Published). xs ++ rest) had in
@@ -125,7 +125,7 @@ reported_seen Served seen old new generation told had long =
     let none : rest ≡ [] = nil_from_length rest (omega (arith, all, some, last, long)) in
     more ∙ ap (λ (xs : List Published). seen ++ xs) none ∙ append-nil seen
 
-long_to : (newest_one : ℕ) → 1 ≤ newest_one → newest_one ≤ 3 → length (published_to newest_one) ≡ newest_one + 1
+long_to : (newest_one : ℕ) → 1 ≤ newest_one → newest_one ≤ 3 → length (published_up_to newest_one) ≡ newest_one + 1
 long_to zero some few = absurd (omega (arith, some))
 long_to (suc zero) some few = refl
 long_to (suc (suc zero)) some few = refl
@@ -133,24 +133,24 @@ long_to (suc (suc (suc zero))) some few = refl
 long_to (suc (suc (suc (suc n)))) some few = absurd (omega (arith, few))
 
 -- the member holds the generation, so it may ask
-asks_held : (newest_one root : ℕ) (m : MemberView) → 1 ≤ newest_one → newest_one ≤ 3 → IsAwake m → IsRooted root m → held_by_view m ≡ published_at (published_to newest_one) (newest (published_to newest_one)) → MayDecide root m the_function
+asks_held : (newest_one root : ℕ) (m : MemberView) → 1 ≤ newest_one → newest_one ≤ 3 → IsAwake m → IsRooted root m → held_by_view m ≡ published_at (published_up_to newest_one) (newest_number (published_up_to newest_one)) → MayDecide root m the_function
 asks_held zero root m some few awake rooted held = absurd (omega (arith, some))
 asks_held (suc zero) root m some few awake rooted held = may_ask root 0 [] m awake rooted held
 asks_held (suc (suc zero)) root m some few awake rooted held = may_ask root 1 only_function m awake rooted held
 asks_held (suc (suc (suc zero))) root m some few awake rooted held = may_ask root 0 [] m awake rooted held
 asks_held (suc (suc (suc (suc n)))) root m some few awake rooted held = absurd (omega (arith, few))
 
-module _ (Served : Published → Type 0) (table : TableId) (newest_one : ℕ) (some : 1 ≤ newest_one) (few : newest_one ≤ 3) (old mid : tokens.Member) (h : HasLearnt table (published_to newest_one) old) (generation : ℕ) (reported : Reported Served (view_of old) (view_of mid) generation) (is : generation ≡ newest_one) where
-  told : Reported Served (view_of old) (view_of mid) newest_one
-  told = subst (λ (g : ℕ). Reported Served (view_of old) (view_of mid) g) is reported
+module _ (Served : Published → Type 0) (table : TableId) (newest_one : ℕ) (some : 1 ≤ newest_one) (few : newest_one ≤ 3) (old mid : tokens.Member) (h : HasLearnt table (published_up_to newest_one) old) (generation : ℕ) (reported : HoldsReported Served (view_of old) (view_of mid) generation) (is : generation ≡ newest_one) where
+  told : HoldsReported Served (view_of old) (view_of mid) newest_one
+  told = subst (λ (g : ℕ). HoldsReported Served (view_of old) (view_of mid) g) is reported
 
-  seen_still : (view_of mid).seen ≡ published_to newest_one
-  seen_still = reported_seen Served (published_to newest_one) (view_of old) (view_of mid) newest_one told h.learnt (long_to newest_one some few)
+  seen_still : (view_of mid).seen ≡ published_up_to newest_one
+  seen_still = reported_seen Served (published_up_to newest_one) (view_of old) (view_of mid) newest_one told h.learnt (long_to newest_one some few)
 
   pub may_decide : (root : ℕ) → IsAwake (view_of mid) → IsRooted root (view_of mid) → MayDecide root (view_of mid) the_function
   may_decide root awake rooted =
       asks_held newest_one root (view_of mid) some few awake rooted
-      (ap (λ (g : ℕ). published_at (view_of mid).seen g) (ap (λ (m : MemberView). m.member.generation) reported.view) ∙ ap (λ (xs : List Published). published_at xs (newest xs)) seen_still)
+      (ap (λ (g : ℕ). published_at (view_of mid).seen g) (ap (λ (m : MemberView). m.member.generation) reported.view) ∙ ap (λ (xs : List Published). published_at xs (newest_number xs)) seen_still)
 
   pub found_leads : (looked : tokens.Member) → HasLookedUp mid looked → IsLeader (view_of mid) → IsLeader (view_of looked)
   found_leads looked read leads = subst IsLeader (sym read.view) (record { awake = leads.awake; scans = leads.scans; leads = leads.leads; places = leads.places })
@@ -165,7 +165,7 @@ module _ (Served : Published → Type 0) (table : TableId) (newest_one : ℕ) (s
   after_seen (Delayed delays) m = refl
   after_seen AtEnd m = refl
 
-  pub learnt_on : (count : ℕ) (answer : Advance) (looked new : tokens.Member) → IsSameMember old mid → HasLookedUp mid looked → IsSameMember looked new → IsMemberOf table new → IsLeader (view_of new) → (view_of new).slots ≡ (view_of looked).slots → HasLooked count (view_of looked) (view_of new) answer → HasLearnt table (published_to newest_one) new
+  pub learnt_on : (count : ℕ) (answer : Advance) (looked new : tokens.Member) → IsSameMember old mid → HasLookedUp mid looked → IsSameMember looked new → IsMemberOf table new → IsLeader (view_of new) → (view_of new).slots ≡ (view_of looked).slots → HasLooked count (view_of looked) (view_of new) answer → HasLearnt table (published_up_to newest_one) new
   learnt_on count answer looked new first read last of leads slots advanced = record {
     leads = record { of = of; leads = leads; slots = slots ∙ ap (λ (m : MemberView). m.slots) read.view ∙ ap (λ (m : MemberView). m.slots) reported.view ∙ h.leads.slots };
     number = last.number ∙ read.number ∙ first.number ∙ h.number;

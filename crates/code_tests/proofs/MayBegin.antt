@@ -7,7 +7,7 @@ use Rattle.prgr_core.proofs.Parts.{some_same}
 use Rattle.term_core.specs.declared.area.AreaRef.{AreaRef}
 use Rattle.area_core.specs.declared.table.KeptArea.{KeptArea}
 use Rattle.area_core.specs.declared.table.Published.{Published}
-use Rattle.area_core.specs.Blocks.{Among, AreaStands, BreakpointsStand, CodeStands, FitsBlock, ImageStands, InstancesPlaced, IsForInstances, KeptApart, UsedAreKept, term_words}
+use Rattle.area_core.specs.Blocks.{Among, AreaStands, BreakpointsStand, CodeStands, FitsBlock, ImageStands, InstancesPlaced, IsForInstances, KeptApart, UsedAreKept, term_blocks_words}
 use Rattle.area_core.specs.Generations.{has_serial, is_kept_as, is_used, tells}
 use Rattle.area_core.specs.Map.{block_place, doom_place, retire_place, word_at}
 use Rattle.area_core.specs.Roots.{fresh_areas}
@@ -62,10 +62,10 @@ module _ (w : WriterView) (h : IsWritten w) where
   pub placed : InstancesPlaced here
   placed a among instance = subst (λ (x : AreaRef). IsForInstances x.block) (sym (one_area 0 [] a among)) (record { first = omega (arith); last = omega (arith) })
 
-  terms : TermsStand (term_words word here.root) here
+  terms : TermsStand (term_blocks_words word here.root) here
   terms = record {
     found = λ i k at. absurd (none_at i at);
-    only = λ key value found. absurd (none_found (term_words word here.root) (λ at low. below (block_place 5 at) (omega (arith, low))) key value found);
+    only = λ key value found. absurd (none_found (term_blocks_words word here.root) (λ at low. below (block_place 5 at) (omega (arith, low))) key value found);
   }
 
   -- it stands under each generation that traces, dooms and retires nothing

@@ -11,12 +11,12 @@ use Rattle.term_core.specs.declared.generation.FunctionRef.{FunctionRef}
 use Rattle.area_core.specs.declared.map.TheConstants.{BUCKETS}
 use Rattle.area_core.specs.declared.table.KeptArea.{KeptArea}
 use Rattle.area_core.specs.declared.table.Published.{Published}
-use Rattle.area_core.specs.Blocks.{Among, CodeStands, DoomTells, InstancesPlaced, IsForInstances, KeptApart, RetireTells, UsedAreKept, term_words}
-use Rattle.area_core.specs.Generations.{has_serial, is_instance, is_kept_as, is_traced, is_used, tells}
+use Rattle.area_core.specs.Blocks.{Among, CodeStands, DoomTells, InstancesPlaced, IsForInstances, KeptApart, RetireTells, UsedAreKept, term_blocks_words}
+use Rattle.area_core.specs.Generations.{has_serial, is_instance, is_kept_as, is_traced_function, is_used, tells}
 use Rattle.area_core.specs.Map.{block_place, doom_place, retire_place, word_at}
 use Rattle.area_core.specs.Roots.{fresh_areas}
 use Rattle.area_core.specs.Step.{opening_published}
-use Rattle.area_core.specs.Terms.{TermsStand, found_in, key_in, look_at, looked, outcome, value_in}
+use Rattle.area_core.specs.Terms.{TermsStand, found_in, key_in, look_at, looked, found_outcome, bucket_value}
 use Rattle.shared_words.specs.declared.view.WriterView.{WriterView}
 use Rattle.shared_words.specs.Publishing.{AreasGoOn, kept_next}
 use Rattle.shared_words.specs.Rule.{HasArea}
@@ -25,7 +25,7 @@ use Rattle.breakpoints.specs.declared.patch.Patch.{Patch}
 use Rattle.breakpoints.specs.Indices.{decision_place}
 use Rattle.breakpoints.specs.Patches.{HasPatched}
 use Rattle.breakpoints.specs.Switched.{MaySwitch, TracesWith, switched_over}
-use Rattle.code_tests.specs.Switching.{AreWords, IsAt, generation_with, index_if, newest_before, published_to, published_with, switched_to, the_area, the_function, the_kept, traced_if}
+use Rattle.code_tests.specs.Switching.{AreWords, IsAt, generation_with, index_if, newest_before, published_up_to, published_with, switched_to, the_area, the_function, the_kept, traced_if}
 use Rattle.code_tests.proofs.Asked.{one_area}
 
 pub none_at : {X : Type 0} (k : ℕ) {x : X} → slice_get {X = X} [] k ≡ Some x → ⊥
@@ -41,14 +41,14 @@ only x y (suc k) at = absurd (none_at k at)
 -- ---- a term table without keys
 
 module _ (block : ℕ → ℕ) (empty : (at : ℕ) → at < 1024 → block at ≡ 0) where
-  looks_on : (key bucket : ℕ) (known : Option (Option ℕ)) → key_in block bucket ≡ 0 → outcome known ≡ None → outcome (look_at block key bucket known) ≡ None
+  looks_on : (key bucket : ℕ) (known : Option (Option ℕ)) → key_in block bucket ≡ 0 → found_outcome known ≡ None → found_outcome (look_at block key bucket known) ≡ None
   looks_on key bucket (Some found) zero_key e = e
   looks_on key bucket None zero_key e = rw zero_key refl
 
   in_block : (n : ℕ) → n % BUCKETS * 2 < 1024
   in_block n = let low : n % BUCKETS < BUCKETS = mod_below n BUCKETS (omega (arith)) in omega (arith, low)
 
-  looked_empty : (key n : ℕ) → outcome (looked block key n) ≡ None
+  looked_empty : (key n : ℕ) → found_outcome (looked block key n) ≡ None
   unfolding looked
   looked_empty key zero = refl
   looked_empty key (suc n) = looks_on key _ (looked block key n) (empty _ (in_block (key % BUCKETS + n))) (looked_empty key n)
@@ -56,7 +56,7 @@ module _ (block : ℕ → ℕ) (empty : (at : ℕ) → at < 1024 → block at �
   pub none_found : (key word : ℕ) → found_in block key ≡ Some word → ⊥
   none_found key word found =
       let none = looked_empty key BUCKETS in
-      none_some (ap (option_map (value_in block)) (sym none) ∙ found)
+      none_some (ap (option_map (bucket_value block)) (sym none) ∙ found)
     where
       none_some : None ≡ Some word → ⊥
       none_some e = (cc)
@@ -87,7 +87,7 @@ all_stays generations old new patched h = record {
 -- ---- the generation
 
 -- the function alone is traced
-traces_it : (serial function : ℕ) → is_traced (switched_to true) serial function ≡ (if (serial == 1) && (function == 0) then true else is_traced (switched_to false) serial function)
+traces_it : (serial function : ℕ) → is_traced_function (switched_to true) serial function ≡ (if (serial == 1) && (function == 0) then true else is_traced_function (switched_to false) serial function)
 traces_it serial function = choose (1 == serial) (0 == function) (serial == 1) (function == 0) (turned 1 serial) (turned 0 function)
   where
     turned : (a b : ℕ) → (a == b) ≡ (b == a)
@@ -99,7 +99,7 @@ traces_it serial function = choose (1 == serial) (0 == function) (serial == 1) (
     choose false b c d x y = rw (sym x) refl
 
 -- or it is no more
-traces_none : (serial function : ℕ) → is_traced (switched_to false) serial function ≡ (if (serial == 1) && (function == 0) then false else is_traced (switched_to true) serial function)
+traces_none : (serial function : ℕ) → is_traced_function (switched_to false) serial function ≡ (if (serial == 1) && (function == 0) then false else is_traced_function (switched_to true) serial function)
 traces_none serial function = choose (1 == serial) (0 == function) (serial == 1) (function == 0) (turned 1 serial) (turned 0 function)
   where
     turned : (a b : ℕ) → (a == b) ≡ (b == a)
@@ -180,10 +180,10 @@ module _ (generations : List Published) (w : WriterView) (h : IsAt generations w
   placed : InstancesPlaced next
   placed a among instance = subst (λ (x : AreaRef). IsForInstances x.block) (sym (one_area bp traced a among)) (record { first = omega (arith); last = omega (arith) })
 
-  terms : TermsStand (term_words word next.root) next
+  terms : TermsStand (term_blocks_words word next.root) next
   terms = record {
     found = λ i k at. absurd (none_at i at);
-    only = λ key value found. absurd (none_found (term_words word next.root) (λ at low. apart_from (block_place 5 at) (inr (omega (arith), omega (arith, low)))) key value found);
+    only = λ key value found. absurd (none_found (term_blocks_words word next.root) (λ at low. apart_from (block_place 5 at) (inr (omega (arith), omega (arith, low)))) key value found);
   }
 
   retire_tells : (g : ℕ) → RetireTells word the_kept g next
@@ -217,7 +217,7 @@ module _ (generations : List Published) (w : WriterView) (h : IsAt generations w
 
 -- ---- the newest generation, and the next one
 
-each_quiet : (on : Bool) (g : ℕ) (p : Published) → slice_get (published_to (newest_before on) ++ switched_to on ∷ []) g ≡ Some p → IsQuiet p
+each_quiet : (on : Bool) (g : ℕ) (p : Published) → slice_get (published_up_to (newest_before on) ++ switched_to on ∷ []) g ≡ Some p → IsQuiet p
 each_quiet true zero p at = subst IsQuiet (some_same opening_published p at) (refl, refl)
 each_quiet true (suc zero) p at = subst IsQuiet (some_same (switched_to false) p at) (refl, refl)
 each_quiet true (suc (suc zero)) p at = subst IsQuiet (some_same (switched_to true) p at) (refl, refl)
@@ -228,20 +228,20 @@ each_quiet false (suc (suc zero)) p at = subst IsQuiet (some_same (switched_to t
 each_quiet false (suc (suc (suc zero))) p at = subst IsQuiet (some_same (switched_to false) p at) (refl, refl)
 each_quiet false (suc (suc (suc (suc k)))) p at = absurd (none_at k at)
 
-pub newest_is : (on : Bool) (w : WriterView) → IsAt (published_to (newest_before on)) w → newest_of w ≡ switched_to (not on)
+pub newest_is : (on : Bool) (w : WriterView) → IsAt (published_up_to (newest_before on)) w → newest_of w ≡ switched_to (not on)
 newest_is true w h = ap (λ (xs : List Published). newest_of (record w { published = xs })) h.published
 newest_is false w h = ap (λ (xs : List Published). newest_of (record w { published = xs })) h.published
 
-pub switched_is : (on : Bool) (w : WriterView) → IsAt (published_to (newest_before on)) w → switched_over w (generation_with (traced_if on)) (the_area ∷ []) ≡ switched_to on
+pub switched_is : (on : Bool) (w : WriterView) → IsAt (published_up_to (newest_before on)) w → switched_over w (generation_with (traced_if on)) (the_area ∷ []) ≡ switched_to on
 switched_is true w h = ap (λ (xs : List Published). switched_over (record w { published = xs }) (generation_with (traced_if true)) (the_area ∷ [])) h.published
 switched_is false w h = ap (λ (xs : List Published). switched_over (record w { published = xs }) (generation_with (traced_if false)) (the_area ∷ [])) h.published
 
 -- its area is in the newest generation already, as that of an instance
-pub listed_before : (on : Bool) (w : WriterView) → IsAt (published_to (newest_before on)) w → Among (newest_of w).areas the_area × IsTrue (is_instance (newest_of w) 1)
+pub listed_before : (on : Bool) (w : WriterView) → IsAt (published_up_to (newest_before on)) w → Among (newest_of w).areas the_area × IsTrue (is_instance (newest_of w) 1)
 listed_before on w h = subst (λ (p : Published). Among p.areas the_area × IsTrue (is_instance p 1)) (sym (newest_is on w h)) ((0, refl), refl)
 
-pub may_switch : (w : WriterView) (Served : Published → Type 0) (x : Patch) → IsAt (published_to (newest_before x.on)) w → x.at ≡ the_function → Served (switched_to x.on) → MaySwitch Served x w (switched_over w (generation_with (traced_if x.on)) (the_area ∷ []))
+pub may_switch : (w : WriterView) (Served : Published → Type 0) (x : Patch) → IsAt (published_up_to (newest_before x.on)) w → x.at ≡ the_function → Served (switched_to x.on) → MaySwitch Served x w (switched_over w (generation_with (traced_if x.on)) (the_area ∷ []))
 may_switch w Served x h at_is served =
     subst (MaySwitch Served x w) (sym (switched_is x.on w h))
-    (may_next (published_to (newest_before x.on)) w h (index_if x.on) (traced_if x.on) Served x served (each_quiet x.on) at_is
+    (may_next (published_up_to (newest_before x.on)) w h (index_if x.on) (traced_if x.on) Served x served (each_quiet x.on) at_is
     (subst (λ (p : Published). TracesWith the_function x.on p (switched_to x.on)) (sym (newest_is x.on w h)) (traces_now x.on)) (listed_before x.on w h))

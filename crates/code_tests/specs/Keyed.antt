@@ -11,13 +11,13 @@ use Rattle.progress_words.specs.Roots.{newest_of}
 use Rattle.term_table.specs.Laws.{IsElsewhere}
 
 -- the word of the integer that a key holds, which is its own number
-abbrev pub integer_of : ℕ → ℕ
-integer_of key = key * 16 + 15
+abbrev pub key_integer_word : ℕ → ℕ
+key_integer_word key = key * 16 + 15
 
 -- so many keys, the last first
 abbrev pub keys_to : ℕ → List KeyTerm
 keys_to zero = []
-keys_to (suc n) = record { key = record { 0 = n }; holding = Word (integer_of n) } ∷ keys_to n
+keys_to (suc n) = record { key = record { 0 = n }; holding = Word (key_integer_word n) } ∷ keys_to n
 
 -- a generation with these, over this term table and the first block of each other sort
 abbrev pub keyed_over : ℕ → ℕ → Published

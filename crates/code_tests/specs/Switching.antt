@@ -95,11 +95,11 @@ abbrev pub switched_to : Bool → Published
 switched_to on = published_with (index_if on) (traced_if on)
 
 -- what is published once this generation is the newest one
-abbrev pub published_to : ℕ → List Published
-published_to zero = opening_published ∷ []
-published_to (suc zero) = opening_published ∷ switched_to false ∷ []
-published_to (suc (suc zero)) = opening_published ∷ switched_to false ∷ switched_to true ∷ []
-published_to (suc (suc (suc n))) = opening_published ∷ switched_to false ∷ switched_to true ∷ switched_to false ∷ []
+abbrev pub published_up_to : ℕ → List Published
+published_up_to zero = opening_published ∷ []
+published_up_to (suc zero) = opening_published ∷ switched_to false ∷ []
+published_up_to (suc (suc zero)) = opening_published ∷ switched_to false ∷ switched_to true ∷ []
+published_up_to (suc (suc (suc n))) = opening_published ∷ switched_to false ∷ switched_to true ∷ switched_to false ∷ []
 
 -- the newest generation before the breakpoint is set, or cleared
 abbrev pub newest_before : Bool → ℕ
@@ -124,8 +124,8 @@ pub record HasLearnt (table : TableId) (seen : List Published) (token : tokens.M
 
 -- no patch is under way, and the member knows of all that is published
 pub record IsSettled (table : TableId) (newest : ℕ) (token : tokens.Member) (w : WriterView) : Type 0 where
-  pub learnt : HasLearnt table (published_to newest) token
-  pub stands : IsAt (published_to newest) w
+  pub learnt : HasLearnt table (published_up_to newest) token
+  pub stands : IsAt (published_up_to newest) w
   pub rest : BreakpointsRest w
   pub notes : w.notes ≡ notes_to newest
 
@@ -134,11 +134,11 @@ pub record IsUnswitched (x : Patch) (w : WriterView) : Type 0 where
   pub at : x.at ≡ the_function
   pub phase : IsUnpublished x.phase
   pub patch : IsPatchOf x w
-  pub stands : IsAt (published_to (newest_before x.on)) w
+  pub stands : IsAt (published_up_to (newest_before x.on)) w
 
 -- it has published its generation, and its last phase is not over
 pub record IsSwitched (x : Patch) (w : WriterView) : Type 0 where
   pub at : x.at ≡ the_function
   pub phase : IsSettling x.phase
   pub patch : IsPatchOf x w
-  pub stands : IsAt (published_to (newest_after x.on)) w
+  pub stands : IsAt (published_up_to (newest_after x.on)) w

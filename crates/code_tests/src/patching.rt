@@ -3,7 +3,7 @@
 ghost use Rattle.std.specs.Prelude.{◌≡◌, ℕ, ◌≤◌, true, IfSome};
 ghost use Rattle.progress_words.specs.Tokens.{written_by, IsWriterOf};
 ghost use Rattle.breakpoints.specs.Indices.{BreakpointsRest};
-ghost use Rattle.code_tests.specs.Switching.{HasLearnt, IsAt, IsSwitched, IsUnswitched, newest_after, published_to};
+ghost use Rattle.code_tests.specs.Switching.{HasLearnt, IsAt, IsSwitched, IsUnswitched, newest_after, published_up_to};
 
 use crate::staged::Any;
 use breakpoints::{Patch, PatchStep, decision};
@@ -54,8 +54,8 @@ enum Called {
 pub fn finds(shared: &Shared<Any>, leader: &mut Member, newest: u64, traced: bool) -> bool
     requires some { 1 ≤ newest }
     requires few { newest ≤ 3 }
-    requires learnt { HasLearnt shared.now.table.shared.table_id (published_to newest) leader.old }
-    ensures learnt { result ≡ true → HasLearnt shared.now.table.shared.table_id (published_to newest) leader.new }
+    requires learnt { HasLearnt shared.now.table.shared.table_id (published_up_to newest) leader.old }
+    ensures learnt { result ≡ true → HasLearnt shared.now.table.shared.table_id (published_up_to newest) leader.new }
 {
     if report(shared, leader) != newest {
         return false;
@@ -69,8 +69,8 @@ pub fn finds(shared: &Shared<Any>, leader: &mut Member, newest: u64, traced: boo
 fn finds_twice(shared: &Shared<Any>, leader: &mut Member, newest: u64, traced: bool) -> bool
     requires some { 1 ≤ newest }
     requires few { newest ≤ 3 }
-    requires learnt { HasLearnt shared.now.table.shared.table_id (published_to newest) leader.old }
-    ensures learnt { result ≡ true → HasLearnt shared.now.table.shared.table_id (published_to newest) leader.new }
+    requires learnt { HasLearnt shared.now.table.shared.table_id (published_up_to newest) leader.old }
+    ensures learnt { result ≡ true → HasLearnt shared.now.table.shared.table_id (published_up_to newest) leader.new }
 {
     if finds(shared, leader, newest, traced) {
         finds(shared, leader, newest, traced)
@@ -106,7 +106,7 @@ fn call_after(shared: &Shared<Any>, writer: &mut Writer, patch: &mut Patch) -> C
     ensures on { patch.new.on ≡ patch.old.on }
     ensures goes_on { result ≡ Called.GoesOn → IsSwitched patch.new (written_by writer.new) }
     ensures rest { result ≡ Called.Finished → BreakpointsRest (written_by writer.new) }
-    ensures stands { result ≡ Called.Finished → IsAt (published_to (newest_after patch.old.on)) (written_by writer.new) }
+    ensures stands { result ≡ Called.Finished → IsAt (published_up_to (newest_after patch.old.on)) (written_by writer.new) }
     ensures notes { (written_by writer.new).notes ≡ (written_by writer.old).notes }
 {
     let next = Switched { on: patch.on };
@@ -130,10 +130,10 @@ pub fn until_published(
     requires token { IsWriterOf shared.now.table.shared.table_id shared.now.table.shared.key writer.old }
     requires some { 1 ≤ newest }
     requires few { newest ≤ 3 }
-    requires learnt { HasLearnt shared.now.table.shared.table_id (published_to newest) leader.old }
+    requires learnt { HasLearnt shared.now.table.shared.table_id (published_up_to newest) leader.old }
     requires patch { IsUnswitched patch.old (written_by writer.old) }
     ensures token { IsWriterOf shared.now.table.shared.table_id shared.now.table.shared.key writer.new }
-    ensures learnt { IfSome result (λ generation. HasLearnt shared.now.table.shared.table_id (published_to newest) leader.new) }
+    ensures learnt { IfSome result (λ generation. HasLearnt shared.now.table.shared.table_id (published_up_to newest) leader.new) }
     ensures patch { IfSome result (λ generation. IsSwitched patch.new (written_by writer.new)) }
     ensures on { patch.new.on ≡ patch.old.on }
     ensures notes { (written_by writer.new).notes ≡ (written_by writer.old).notes }
@@ -164,12 +164,12 @@ pub fn until_finished(
     requires token { IsWriterOf shared.now.table.shared.table_id shared.now.table.shared.key writer.old }
     requires some { 1 ≤ newest }
     requires few { newest ≤ 3 }
-    requires learnt { HasLearnt shared.now.table.shared.table_id (published_to newest) leader.old }
+    requires learnt { HasLearnt shared.now.table.shared.table_id (published_up_to newest) leader.old }
     requires patch { IsSwitched patch.old (written_by writer.old) }
     ensures token { IsWriterOf shared.now.table.shared.table_id shared.now.table.shared.key writer.new }
-    ensures learnt { result ≡ true → HasLearnt shared.now.table.shared.table_id (published_to newest) leader.new }
+    ensures learnt { result ≡ true → HasLearnt shared.now.table.shared.table_id (published_up_to newest) leader.new }
     ensures rest { result ≡ true → BreakpointsRest (written_by writer.new) }
-    ensures stands { result ≡ true → IsAt (published_to (newest_after patch.old.on)) (written_by writer.new) }
+    ensures stands { result ≡ true → IsAt (published_up_to (newest_after patch.old.on)) (written_by writer.new) }
     ensures notes { (written_by writer.new).notes ≡ (written_by writer.old).notes }
 {
     for _ in 0..CALLS {

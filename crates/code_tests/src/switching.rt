@@ -5,7 +5,7 @@
 
 ghost use Rattle.std.specs.Prelude.{◌≡◌, ◌+◌, ◌<◌, true, length, IfSome, IsTrue};
 ghost use Rattle.area_core.specs.declared.readers.Slots.TheVariants.{OfMember};
-ghost use Rattle.area_core.specs.Readers.{is_of};
+ghost use Rattle.area_core.specs.Readers.{is_slot_of};
 ghost use Rattle.shared_words.specs.Making.{IsHanding, IsMemberBegun};
 ghost use Rattle.shared_words.specs.Notes.{MaySplitNote, with_note};
 ghost use Rattle.progress_words.specs.Tokens.{view_of, written_by, IsWriterOf};
@@ -51,7 +51,7 @@ fn tell(shared: &Shared<Any>, writer: &mut Writer, leader: &mut Member, process:
     requires token { IsWriterOf shared.now.table.shared.table_id shared.now.table.shared.key writer.old }
     requires may { MaySplitNote (written_by writer.old) process }
     requires leads { IsLeading shared.now.table.shared.table_id leader.old }
-    requires own { IsTrue (is_of (OfMember leader.old.number shared.now.table.shared.key.members) process) }
+    requires own { IsTrue (is_slot_of (OfMember leader.old.number shared.now.table.shared.key.members) process) }
     requires behind { length (view_of leader.old).seen < length (written_by writer.old).published }
     ensures token { IsWriterOf shared.now.table.shared.table_id shared.now.table.shared.key writer.new }
     ensures kept { written_by writer.new ≡ with_note process (written_by writer.old) }

@@ -9,7 +9,7 @@ use Rattle.term_core.specs.declared.atom.Mfa.{Mfa}
 use Rattle.term_core.proofs.Places.{position-map, is_some-position, position-append_one, slice_get-append, slice_get-append_one}
 use Rattle.export_table.specs.declared.names.FunctionKey.{FunctionKey}
 use Rattle.export_table.specs.FunctionKeys.{name_of_key}
-use Rattle.export_table.specs.Exports.{is_same_name, entry_of, names_with, AreEntries, HasEntry}
+use Rattle.export_table.specs.Exports.{is_same_mfa, entry_of, exports_with, AreEntries, HasEntry}
 
 -- both keys are the same
 abbrev is_same_key : FunctionKey → FunctionKey → Bool
@@ -17,10 +17,10 @@ is_same_key k x = k.«module» == x.«module» && (k.name == x.name && k.arity =
 
 -- where a key stands is the number of its name
 pub key_place : (ks : List FunctionKey) (k : FunctionKey) → entry_of (map name_of_key ks) (name_of_key k) ≡ position (λ x. k.«module» == x.«module» && (k.name == x.name && k.arity == x.arity)) ks
-key_place ks k = position-map (is_same_name (name_of_key k)) name_of_key ks
+key_place ks k = position-map (is_same_mfa (name_of_key k)) name_of_key ks
 
 -- a key that joins the others adds its name
-pub key_added : (ks : List FunctionKey) (k : FunctionKey) → map name_of_key (cond (list_any (λ x. k.«module» == x.«module» && (k.name == x.name && k.arity == x.arity)) ks) ks (ks ++ k ∷ [])) ≡ names_with (map name_of_key ks) (name_of_key k)
+pub key_added : (ks : List FunctionKey) (k : FunctionKey) → map name_of_key (cond (list_any (λ x. k.«module» == x.«module» && (k.name == x.name && k.arity == x.arity)) ks) ks (ks ++ k ∷ [])) ≡ exports_with (map name_of_key ks) (name_of_key k)
 key_added ks k =
     let found : list_any (is_same_key k) ks ≡ is_some (entry_of (map name_of_key ks) (name_of_key k)) = sym (is_some-position (is_same_key k) ks) ∙ ap is_some (sym (key_place ks k)) in
     by_test (list_any (is_same_key k) ks) ∙ ap (λ t. cond t (map name_of_key ks) (map name_of_key ks ++ name_of_key k ∷ [])) found
@@ -30,14 +30,14 @@ key_added ks k =
     by_test false = map-append name_of_key ks (k ∷ [])
 
 -- a name is the same as itself
-same_self : (name : Mfa) → is_same_name name name ≡ true
+same_self : (name : Mfa) → is_same_mfa name name ≡ true
 same_self name = grind (arith, nat_tests)
 
 -- a name that has no number stands nowhere
 stands_nowhere : (names : List Mfa) (to : Mfa) (i : ℕ) → entry_of names to ≡ None → slice_get names i ≡ Some to → ⊥
 stands_nowhere names to i none at =
-    let here : is_same_name to (get_or names i to) ≡ true = ap (is_same_name to) (get_or_from_slice_get names i to to at) ∙ same_self to in
-    let some : is_some (entry_of names to) ≡ true = is_some-position (is_same_name to) names ∙ list_any_at (is_same_name to) names i to (slice_get_within names i to at) here in
+    let here : is_same_mfa to (get_or names i to) ≡ true = ap (is_same_mfa to) (get_or_from_slice_get names i to to at) ∙ same_self to in
+    let some : is_some (entry_of names to) ≡ true = is_some-position (is_same_mfa to) names ∙ list_any_at (is_same_mfa to) names i to (slice_get_within names i to at) here in
     let not : is_some (entry_of names to) ≡ false = ap is_some none in
     absurd (cc)
 
@@ -66,17 +66,17 @@ still_once names to sound none i j name a b =
     ]
 
 -- names stay those of a table when a new one joins them
-pub entries_with : (names : List Mfa) (to : Mfa) → AreEntries names → entry_of names to ≡ None → length names < 1024 → AreEntries (names_with names to)
+pub entries_with : (names : List Mfa) (to : Mfa) → AreEntries names → entry_of names to ≡ None → length names < 1024 → AreEntries (exports_with names to)
 entries_with names to sound none room =
-    let is : names ++ to ∷ [] ≡ names_with names to = ap (λ o. cond (is_some o) names (names ++ to ∷ [])) (sym none) in
+    let is : names ++ to ∷ [] ≡ exports_with names to = ap (λ o. cond (is_some o) names (names ++ to ∷ [])) (sym none) in
     subst AreEntries is (record { once = still_once names to sound none; room = omega (arith, length-append names (to ∷ [])) })
 
 -- a new name has the next number
-pub entry_next : (names : List Mfa) (to : Mfa) → entry_of names to ≡ None → entry_of (names_with names to) to ≡ Some (length names)
-entry_next names to none = ap (λ o. entry_of (cond (is_some o) names (names ++ to ∷ [])) to) none ∙ position-append_one (is_same_name to) names to none (same_self to)
+pub entry_next : (names : List Mfa) (to : Mfa) → entry_of names to ≡ None → entry_of (exports_with names to) to ≡ Some (length names)
+entry_next names to none = ap (λ o. entry_of (cond (is_some o) names (names ++ to ∷ [])) to) none ∙ position-append_one (is_same_mfa to) names to none (same_self to)
 
 -- with a new name the table has its entry
-pub entry_added : (names : List Mfa) (to : Mfa) (number : ℕ) (after : List Mfa) → entry_of names to ≡ None → number ≡ length names → number < 1024 → after ≡ names_with names to → HasEntry names to number after
+pub entry_added : (names : List Mfa) (to : Mfa) (number : ℕ) (after : List Mfa) → entry_of names to ≡ None → number ≡ length names → number < 1024 → after ≡ exports_with names to → HasEntry names to number after
 entry_added names to number after none held small is = record {
   names = is;
   entry = ap (λ all. entry_of all to) is ∙ entry_next names to none ∙ ap Some (sym held);

@@ -5,16 +5,16 @@ use Rattle.term_core.specs.declared.atom.Mfa.{Mfa}
 use Rattle.export_table.specs.declared.table.TheConstants.{MOST_ENTRIES}
 
 -- both name the same function: they agree in module, name and arity
-abbrev pub is_same_name : Mfa → Mfa → Bool
-is_same_name a b = a.«module».0 == b.«module».0 && (a.name.0 == b.name.0 && a.arity == b.arity)
+abbrev pub is_same_mfa : Mfa → Mfa → Bool
+is_same_mfa a b = a.«module».0 == b.«module».0 && (a.name.0 == b.name.0 && a.arity == b.arity)
 
 -- the number of a name: the place at which it stands, if it does
 abbrev pub entry_of : List Mfa → Mfa → Option ℕ
-entry_of names to = position (is_same_name to) names
+entry_of names to = position (is_same_mfa to) names
 
 -- the names once one was added: a new one goes last
-abbrev pub names_with : List Mfa → Mfa → List Mfa
-names_with names to = if is_some (entry_of names to) then names else names ++ to ∷ []
+abbrev pub exports_with : List Mfa → Mfa → List Mfa
+exports_with names to = if is_some (entry_of names to) then names else names ++ to ∷ []
 
 -- the names of a table: each stands once, and there are at most 1,024
 pub record AreEntries (names : List Mfa) : Type 0 where
@@ -23,6 +23,6 @@ pub record AreEntries (names : List Mfa) : Type 0 where
 
 -- with the names before, a name was added, and this is its number
 pub record HasEntry (before : List Mfa) (to : Mfa) (number : ℕ) (after : List Mfa) : Type 0 where
-  pub names : after ≡ names_with before to
+  pub names : after ≡ exports_with before to
   pub entry : entry_of after to ≡ Some number
   pub small : number < MOST_ENTRIES

@@ -9,7 +9,7 @@ use Rattle.area_core.specs.declared.map.TheConstants.{ANCHORS}
 use Rattle.area_core.specs.declared.readers.Slots.TheVariants.{OfMember}
 use Rattle.area_core.specs.declared.table.Published.{Published}
 use Rattle.area_core.specs.Generations.{is_current}
-use Rattle.area_core.specs.Readers.{is_of}
+use Rattle.area_core.specs.Readers.{is_slot_of}
 use Rattle.area_core.specs.Step.{opening_published}
 use Rattle.area_core.proofs.Counted.{opened}
 use Rattle.marks.specs.Names.{tells_kill}
@@ -28,10 +28,10 @@ use Rattle.shared_words.specs.Opening.{member_begun}
 use Rattle.shared_words.specs.Processes.{AreAtRest, AreCopied, note_in, slot_in, under_of}
 use Rattle.shared_words.specs.Publishing.{with_next}
 use Rattle.shared_words.specs.Seats.{member_of, writer_of}
-use Rattle.shared_words.specs.Views.{published_at, newest}
+use Rattle.shared_words.specs.Views.{published_at, newest_number}
 use Rattle.shared_words.proofs.OpeningRule.{last_get}
 use Rattle.progress_words.specs.Tokens.{view_of, written_by, IsMemberOf, IsSameMember}
-use Rattle.progress_words.specs.Reports.{IsAwake, Reported}
+use Rattle.progress_words.specs.Reports.{IsAwake, HoldsReported}
 use Rattle.progress_tests.proofs.Begun.{empty_rests}
 use Rattle.progress_tests.proofs.Emptied.{no_element}
 use Rattle.anchors.specs.Holds.{anchors_of, IsUnkilled, HasHeld}
@@ -47,7 +47,7 @@ pub tells_now : (table : TableId) (opening : Opening) (handed : ℕ) (begun : wr
 tells_now table opening handed begun w n is next noted =
     let published : w.published ≡ opening_published ∷ used_published ∷ [] = ap (λ (v : WriterView). v.published) (next ∙ ap (with_next used_published) (ap writer_of is.view)) in
     record {
-      note = ap (λ (v : NoteView). v.note) noted ∙ ap (λ (ps : List Published). record { process = 0; published = newest ps }) published;
+      note = ap (λ (v : NoteView). v.note) noted ∙ ap (λ (ps : List Published). record { process = 0; published = newest_number ps }) published;
       seen = ap (λ (v : NoteView). v.seen) noted ∙ published;
     }
 
@@ -68,8 +68,8 @@ only_begun table all rest last taken begun =
     subst (λ (n : ℕ). IsMemberBegun table n last) none (begun.each (length rest) last (ap (λ (xs : List members.Member). slice_get xs (length rest)) taken ∙ last_get rest last))
 
 -- the process of the note is its own
-pub own_process : (number count process : ℕ) → number ≡ 0 → count ≡ 1 → process ≡ 0 → IsTrue (is_of (OfMember number count) process)
-own_process number count process first one is = subst (λ (z : ℕ × ℕ × ℕ). IsTrue (is_of (OfMember z.0 z.1) z.2)) (λ i. (sym first i, sym one i, sym is i)) refl
+pub own_process : (number count process : ℕ) → number ≡ 0 → count ≡ 1 → process ≡ 0 → IsTrue (is_slot_of (OfMember number count) process)
+own_process number count process first one is = subst (λ (z : ℕ × ℕ × ℕ). IsTrue (is_slot_of (OfMember z.0 z.1) z.2)) (λ i. (sym first i, sym one i, sym is i)) refl
 
 zeros : (count place word : ℕ) → slice_get (replicate count 0) place ≡ Some word → word ≡ 0
 zeros zero place word at = absurd (cc)
@@ -88,7 +88,7 @@ begun_unkilled m none place word serial at tells =
     no_kill serial (subst (λ (n : ℕ). tells_kill n serial ≡ true) is tells)
 
 -- what it knows once it has joined the note, and reported generation 1
-module _ (Served : Published → Type 0) (opening : Opening) (n : NoteView) (old joined new : MemberView) (begun : old ≡ member_begun 0) (tells : TellsOfUse n) (is : joined ≡ note_joined n old) (told : Reported Served joined new 1) where
+module _ (Served : Published → Type 0) (opening : Opening) (n : NoteView) (old joined new : MemberView) (begun : old ≡ member_begun 0) (tells : TellsOfUse n) (is : joined ≡ note_joined n old) (told : HoldsReported Served joined new 1) where
   learnt : joined.seen ≡ opening_published ∷ used_published ∷ []
   learnt = ap (λ (m : MemberView). m.seen) is ∙ (λ i. longer (begun i).seen (tells.seen i))
 
@@ -126,10 +126,10 @@ copied_still xs ys old new same before after copied =
 
 -- so its token is one of a member that may name the instance
 pub user_learnt : (Served : Published → Type 0) (table : TableId) (opening : Opening) (n : NoteView) (old joined new : members.Member) (told : ℕ) → IsMemberBegun table 0 old → TellsOfUse n → view_of joined ≡ note_joined n (view_of old) → opening.members ≡ 1
-    → IsSameMember old joined → IsSameMember joined new → IsMemberOf table new → IsAwake (view_of new) → Reported Served (view_of joined) (view_of new) told → told ≡ 1 → IsUser table opening new
-user_learnt Served table opening n old joined new told begun tells is one first second of awake reported newest =
+    → IsSameMember old joined → IsSameMember joined new → IsMemberOf table new → IsAwake (view_of new) → HoldsReported Served (view_of joined) (view_of new) told → told ≡ 1 → IsUser table opening new
+user_learnt Served table opening n old joined new told begun tells is one first second of awake reported newest_number =
     let view : view_of old ≡ member_begun 0 = ap member_of begun.view in
-    let newest_told : Reported Served (view_of joined) (view_of new) 1 = subst (λ (g : ℕ). Reported Served (view_of joined) (view_of new) g) newest reported in
+    let newest_told : HoldsReported Served (view_of joined) (view_of new) 1 = subst (λ (g : ℕ). HoldsReported Served (view_of joined) (view_of new) g) newest_number reported in
     let none = learnt_slots Served opening n (view_of old) (view_of joined) (view_of new) view tells is newest_told in record {
       of = of;
       copied = copied_still old.anchors.items new.anchors.items (member_begun 0) (view_of new) (second.anchors ∙ first.anchors) refl none begun.copied;

@@ -7,7 +7,7 @@ use Rattle.prgr_core.proofs.Parts.{slice_get-push_at, some_same}
 use Rattle.term_core.specs.declared.area.AreaRef.{AreaRef}
 use Rattle.area_core.specs.declared.table.Published.{Published}
 use Rattle.area_core.specs.declared.table.KeptArea.{KeptArea}
-use Rattle.area_core.specs.Generations.{has_serial, is_used, is_retired, is_kept_as, tells}
+use Rattle.area_core.specs.Generations.{has_serial, is_used, is_retired_area, is_kept_as, tells}
 use Rattle.area_core.specs.Map.{word_at, retire_place, doom_place}
 use Rattle.area_core.specs.Blocks.{Among, AreaStands, FitsBlock, ImageStands, IsForInstances, KeptApart, InstancesPlaced, BreakpointsStand, UsedAreKept}
 use Rattle.area_core.specs.Roots.{fresh_areas}
@@ -33,7 +33,7 @@ used_is serial used =
     ]
 
 -- what was dropped is not what is used
-retired_unused : (serial : ℕ) → IsTrue (is_retired used_published serial) → is_used used_published serial ≡ false
+retired_unused : (serial : ℕ) → IsTrue (is_retired_area used_published serial) → is_used used_published serial ≡ false
 retired_unused serial retired =
     elim (cases_Bool (2 == serial)) as (λ _. is_used used_published serial ≡ false) [
       | inl same ↦ subst (λ (n : ℕ). is_used used_published n ≡ false) (eqb-true 2 serial same) refl
@@ -62,7 +62,7 @@ module _ (w : WriterView) (h : IsEmpty w) where
   breakpoints a among instance function few = h.words _
 
   -- its area stands under each generation that traces and dooms nothing, and did not drop it
-  stands : (g : ℕ) (p : Published) → p.state.traced ≡ [] → is_retired p 1 ≡ false → p.state.doomed ≡ [] → AreaStands word the_kept g p
+  stands : (g : ℕ) (p : Published) → p.state.traced ≡ [] → is_retired_area p 1 ≡ false → p.state.doomed ≡ [] → AreaStands word the_kept g p
   stands g p traced retired doomed = record {
     entries = λ function has zero_word. rw traced refl;
     retired = ap (λ (n : ℕ). tells n g) (h.words (retire_place 9)) ∙ sym retired;
@@ -89,10 +89,10 @@ module _ (w : WriterView) (h : IsEmpty w) where
       (slice_get-push_at w.published used_published g p at)
 
   -- what one of them dropped, none of them uses
-  dropped_unused : (serial : ℕ) (p q : Published) (g later : ℕ) → slice_get (w.published ++ used_published ∷ []) g ≡ Some p → slice_get (w.published ++ used_published ∷ []) later ≡ Some q → IsTrue (is_retired p serial) → is_used q serial ≡ false
+  dropped_unused : (serial : ℕ) (p q : Published) (g later : ℕ) → slice_get (w.published ++ used_published ∷ []) g ≡ Some p → slice_get (w.published ++ used_published ∷ []) later ≡ Some q → IsTrue (is_retired_area p serial) → is_used q serial ≡ false
   dropped_unused serial p q g later at_p at_q retired =
       each (λ (x : Published). is_used x serial ≡ false) refl
-      (each (λ (x : Published). IsTrue (is_retired x serial) → is_used used_published serial ≡ false) (λ none. absurd (never none)) (retired_unused serial) g p at_p retired)
+      (each (λ (x : Published). IsTrue (is_retired_area x serial) → is_used used_published serial ≡ false) (λ none. absurd (never none)) (retired_unused serial) g p at_p retired)
       later q at_q
 
   -- it may be published
@@ -123,7 +123,7 @@ module _ (w : WriterView) (h : IsEmpty w) where
           areas = λ g q counts at k among.
               let is = h.published q (g, at) in
               subst (λ (x : KeptArea). AreaStands word x g q) (sym (one_fresh k among))
-              (stands g q (ap (λ (x : Published). x.state.traced) is) (ap (λ (x : Published). is_retired x 1) is) (ap (λ (x : Published). x.state.doomed) is));
+              (stands g q (ap (λ (x : Published). x.state.traced) is) (ap (λ (x : Published). is_retired_area x 1) is) (ap (λ (x : Published). x.state.doomed) is));
           apart = subst KeptApart (sym kept_is) (one_apart the_kept);
         };
       }

@@ -6,9 +6,9 @@ use Rattle.area_core.specs.Map.{word_at}
 use Rattle.shared_words.specs.declared.view.MemberView.{MemberView}
 use Rattle.shared_words.specs.declared.view.WriterView.{WriterView}
 use Rattle.shared_words.specs.Kinds.{counter_kept}
-use Rattle.shared_words.specs.Views.{newest}
+use Rattle.shared_words.specs.Views.{newest_number}
 use Rattle.shared_words.proofs.ShownMembers.{still_at}
-use Rattle.progress_words.specs.Reports.{Reported}
+use Rattle.progress_words.specs.Reports.{HoldsReported}
 use Rattle.progress_words.specs.Needs.{HasLoadedCounter, HasTaken}
 use Rattle.progress_tests.specs.Running.{IsEmpty}
 use Rattle.grace_bench.specs.Waiting.{HasAsked, IsOver}
@@ -17,7 +17,7 @@ use Rattle.grace_bench.specs.Waiting.{HasAsked, IsOver}
 
 -- each load of the counter takes one more value
 one_more : (w : WriterView) (counter : ℕ) → HasAsked w (counter_kept counter w)
-one_more w counter = record { published = refl; words = refl; kept = refl; pairs = λ pair among. (among.0, still_at w.pairs (record { generation = newest w.published; need = counter + 2 } ∷ []) among.0 pair among.1) }
+one_more w counter = record { published = refl; words = refl; kept = refl; pairs = λ pair among. (among.0, still_at w.pairs (record { generation = newest_number w.published; need = counter + 2 } ∷ []) among.0 pair among.1) }
 
 pub asked_now : (old new : WriterView) → HasLoadedCounter old new → HasAsked old new
 asked_now old new loaded = subst (HasAsked old) (sym loaded.view) (one_more old loaded.counter)
@@ -37,5 +37,5 @@ still_empty old new asked empty = record {
 -- ---- the member
 
 -- a report and a try to raise the counter leave a leader without slots
-pub still_none : (Served : Published → Type 0) (old between new : MemberView) (generation : ℕ) → Reported Served old between generation → new.slots ≡ between.slots → old.slots ≡ [] → new.slots ≡ []
+pub still_none : (Served : Published → Type 0) (old between new : MemberView) (generation : ℕ) → HoldsReported Served old between generation → new.slots ≡ between.slots → old.slots ≡ [] → new.slots ≡ []
 still_none Served old between new generation told kept none = kept ∙ ap (λ (m : MemberView). m.slots) told.view ∙ none

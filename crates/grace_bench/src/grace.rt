@@ -1,7 +1,7 @@
 //! A writer that waits for grace periods, beneath members that report all the time, one of which leads.
 
 ghost use Rattle.std.specs.Prelude.{◌≡◌, ◌≤◌, ◌<◌, ◌+◌, ◌^◌, true, [], All};
-ghost use Rattle.shared_words.specs.Views.{newest};
+ghost use Rattle.shared_words.specs.Views.{newest_number};
 ghost use Rattle.progress_words.specs.Tokens.{view_of, written_by, IsMemberOf, IsWriterOf};
 ghost use Rattle.progress_words.specs.Leads.{IsLeader};
 ghost use Rattle.progress_tests.specs.Running.{IsReady, IsEmpty};
@@ -194,7 +194,7 @@ fn wait_over<R: Wait>(rt: &R, shared: &Shared<Any>, writer: &mut Writer, state: 
     ensures token { IsWriterOf shared.now.table.shared.table_id shared.now.table.shared.key writer.new }
     ensures generation { writer.new.generation ≡ writer.old.generation }
     ensures asked { HasAsked (written_by writer.old) (written_by writer.new) }
-    ensures over { IsOver (written_by writer.new) (newest (written_by writer.old).published) }
+    ensures over { IsOver (written_by writer.new) (newest_number (written_by writer.old).published) }
 {
     let need = later(shared, writer);
     for _ in rt.forever() {

@@ -4,7 +4,7 @@ ghost use Rattle.std.specs.Prelude.{◌≡◌};
 ghost use Rattle.term_core.specs.declared.hold.Kind.TheVariants as kinds;
 ghost use Rattle.shared_words.specs.Making.{IsMemberBegun};
 ghost use Rattle.progress_words.specs.Tokens.{view_of, noted_by, IsNoteOf};
-ghost use Rattle.anchors.specs.Holds.{anchors_of, Holds};
+ghost use Rattle.anchors.specs.Holds.{anchors_of, HoldsAnchors};
 ghost use Rattle.grace_bench.specs.Holding.{IsUser, TellsOfUse};
 
 use crate::tables::{Any, publish_used};
@@ -84,7 +84,7 @@ fn hold_once(shared: &Shared<Any>, member: &mut Member) -> bool
 /// Drops the instance that the process names.
 fn drop_used(shared: &Shared<Any>, member: &mut Member)
     requires user { IsUser shared.now.table.shared.table_id shared.now.table.shared.key member.old }
-    requires held { Holds kinds.Frame (anchors_of (view_of member.old) 0) 1 }
+    requires held { HoldsAnchors kinds.Frame (anchors_of (view_of member.old) 0) 1 }
     ensures user { IsUser shared.now.table.shared.table_id shared.now.table.shared.key member.new }
 {
     drop_hold(shared, member, 0, USED, Kind::Frame);

@@ -1,7 +1,7 @@
 //! What a wait is made of, and a wait of the writer beside a member that leads in the same thread.
 
 ghost use Rattle.std.specs.Prelude.{◌≡◌, ◌≤◌, true, []};
-ghost use Rattle.shared_words.specs.Views.{newest};
+ghost use Rattle.shared_words.specs.Views.{newest_number};
 ghost use Rattle.progress_words.specs.Tokens.{view_of, written_by, IsMemberOf, IsWriterOf};
 ghost use Rattle.progress_words.specs.Leads.{IsLeader};
 ghost use Rattle.grace_bench.specs.Waiting.{HasAsked, IsOver};
@@ -49,7 +49,7 @@ pub fn wait_alone<R: Wait>(rt: &R, shared: &Shared<Any>, writer: &mut Writer, le
     requires slots { (view_of leader.old).slots ≡ [] }
     ensures writer { IsWriterOf shared.now.table.shared.table_id shared.now.table.shared.key writer.new }
     ensures asked { HasAsked (written_by writer.old) (written_by writer.new) }
-    ensures over { IsOver (written_by writer.new) (newest (written_by writer.old).published) }
+    ensures over { IsOver (written_by writer.new) (newest_number (written_by writer.old).published) }
 {
     let need = later(shared, writer);
     for _ in rt.forever() {

@@ -8,7 +8,7 @@ use Rattle.prgr_core.proofs.Parts.{and_then_some}
 use Rattle.term_core.specs.declared.area.AreaRef.{AreaRef}
 use Rattle.area_core.specs.declared.table.Published.{Published}
 use Rattle.area_core.specs.declared.table.KeptArea.{KeptArea}
-use Rattle.area_core.specs.Generations.{is_retired}
+use Rattle.area_core.specs.Generations.{is_retired_area}
 use Rattle.area_core.specs.Blocks.{Among}
 use Rattle.shared_words.specs.declared.view.WriterView.{WriterView}
 use Rattle.literal_areas.specs.declared.blocks.BlockUse.{BlockUse}
@@ -74,8 +74,8 @@ module _ (big small : ℕ) (is_big : big ≡ 55) (is_small : small ≡ 256) (w :
   no_area : (p : Published) (a : AreaRef) → Among w.published p → Among p.areas a → ⊥
   no_area p a published among = none_among a (subst (λ (q : Published). Among q.areas a) (is.published p published) among)
 
-  unretired : (p : Published) (n : ℕ) → Among w.published p → IsTrue (is_retired p n) → ⊥
-  unretired p n published retired = false_true (subst (λ (q : Published). is_retired q n ≡ true) (is.published p published) retired)
+  unretired : (p : Published) (n : ℕ) → Among w.published p → IsTrue (is_retired_area p n) → ⊥
+  unretired p n published retired = false_true (subst (λ (q : Published). is_retired_area q n ≡ true) (is.published p published) retired)
 
   pub owned_first : AreOf (free_areas big small) w
   owned_first = record {

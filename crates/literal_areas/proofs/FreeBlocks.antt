@@ -13,7 +13,7 @@ use Rattle.literal_areas.specs.declared.blocks.BlockUse.TheVariants.{Free, Live,
 use Rattle.literal_areas.specs.declared.areas.Areas.{Areas}
 use Rattle.literal_areas.specs.declared.taking.Take.{Take}
 use Rattle.literal_areas.specs.declared.taking.Take.TheVariants.{Area, AllLive, AwaitRelease}
-use Rattle.literal_areas.specs.Blocks.{is_free, is_live, is_retired, blocks_of, first_of, size_of, use_of, HasSizes, IsFreeIn, IsRefused, AreAllLive, AwaitsRelease, HasAnswered}
+use Rattle.literal_areas.specs.Blocks.{is_free, is_live, is_retired_block, blocks_of, first_of, size_of, use_of, HasSizes, IsFreeIn, IsRefused, AreAllLive, AwaitsRelease, HasAnswered}
 use Rattle.literal_areas.proofs.Uses.{use_big, use_small}
 
 -- ---- the first that passes
@@ -41,7 +41,7 @@ pub none_found : {X : Type 0} (test : X → Bool) (xs : List X) → position tes
 none_found test xs e = sym (is_some-position test xs) ∙ ap is_some e
 
 -- where none is free and none retired, all are live
-all_live : (blocks : List BlockUse) → list_any is_free blocks ≡ false → list_any is_retired blocks ≡ false → list_all is_live blocks ≡ true
+all_live : (blocks : List BlockUse) → list_any is_free blocks ≡ false → list_any is_retired_block blocks ≡ false → list_all is_live blocks ≡ true
 all_live [] none unretired = refl
 all_live (Free ∷ blocks) none unretired = absurd (cc)
 all_live (Live n ∷ blocks) none unretired = all_live blocks none unretired
@@ -93,8 +93,8 @@ pub no_block : (pool : Pool) (s : Areas) (blocks : List BlockUse) (found : Optio
 no_block pool s blocks found is sought e = none_found is_free (blocks_of pool s) (ap (position is_free) (sym is) ∙ sym sought ∙ e)
 
 -- why none is taken, where none is retired
-pub refused_live : (pool : Pool) (s : Areas) (blocks : List BlockUse) (retired : Bool) → list_any is_free (blocks_of pool s) ≡ false → blocks ≡ blocks_of pool s → retired ≡ list_any is_retired blocks → retired ≡ false → IsRefused (AreAllLive (blocks_of pool s)) s s
-refused_live pool s blocks retired full is told none = record { why = all_live (blocks_of pool s) full (ap (list_any is_retired) (sym is) ∙ sym told ∙ none); same = refl }
+pub refused_live : (pool : Pool) (s : Areas) (blocks : List BlockUse) (retired : Bool) → list_any is_free (blocks_of pool s) ≡ false → blocks ≡ blocks_of pool s → retired ≡ list_any is_retired_block blocks → retired ≡ false → IsRefused (AreAllLive (blocks_of pool s)) s s
+refused_live pool s blocks retired full is told none = record { why = all_live (blocks_of pool s) full (ap (list_any is_retired_block) (sym is) ∙ sym told ∙ none); same = refl }
 
 -- a free block stands in the pool's list
 free_listed : (pool : Pool) (s : Areas) (block : ℕ) → IsFreeIn pool s block → slice_get (blocks_of pool s) (block - first_of pool) ≡ Some Free
@@ -106,7 +106,7 @@ free_listed Small s block is = sym (use_small s block is.first) ∙ is.free
 
 -- ---- none is free
 
-not_both : (u : BlockUse) → is_live u ≡ true → is_retired u ≡ true → ⊥
+not_both : (u : BlockUse) → is_live u ≡ true → is_retired_block u ≡ true → ⊥
 not_both Free live retired = false_true live
 not_both (Live n) live retired = false_true retired
 not_both (Retired n g) live retired = false_true live
@@ -114,7 +114,7 @@ not_both (Retired n g) live retired = false_true live
 -- not both all live and one retired
 live_awaits : (blocks : List BlockUse) → AreAllLive blocks → AwaitsRelease blocks → ⊥
 live_awaits blocks live awaits =
-    let found = passed_by is_retired blocks awaits.some in
+    let found = passed_by is_retired_block blocks awaits.some in
     not_both found.0 (each_passes is_live blocks found.1 found.0 live found.2) found.3
 
 -- nor is one free

@@ -10,7 +10,7 @@ use Rattle.area_core.specs.declared.table.Published.{Published}
 use Rattle.area_core.specs.declared.table.KeptArea.{KeptArea}
 use Rattle.area_core.specs.Map.{kind_at, block_place, retire_place, doom_place}
 use Rattle.area_core.specs.Stores.{is_released_at}
-use Rattle.area_core.specs.Generations.{has_serial, is_current, is_instance, is_key_area, is_reached, is_retired, is_used}
+use Rattle.area_core.specs.Generations.{has_serial, is_current, is_instance, is_key_area, is_reached, is_retired_area, is_used}
 use Rattle.area_core.specs.Blocks.{Among}
 use Rattle.area_core.specs.Readers.{reaches_block}
 use Rattle.area_core.proofs.Places.{kind_block, kind_retire, kind_doom}
@@ -18,7 +18,7 @@ use Rattle.area_core.proofs.Tests.{passed_by, filter_gives}
 use Rattle.marks.specs.declared.kept.LookKind.TheVariants.{Both}
 use Rattle.shared_words.specs.declared.opening.Opening.{Opening}
 use Rattle.shared_words.specs.declared.view.WriterView.{WriterView}
-use Rattle.shared_words.specs.Views.{newest}
+use Rattle.shared_words.specs.Views.{newest_number}
 use Rattle.shared_words.specs.Rule.{MayBeRead}
 use Rattle.shared_words.specs.Publishing.{FitsInBlock, FitsRetire, FitsWord, MayStoreWord, is_released, kept_left, with_word}
 use Rattle.shared_words.specs.Slots.{IsClear}
@@ -81,22 +81,22 @@ module _ (s : Areas) (w : WriterView) (own : AreOf s w) (area : AreaRef) (may : 
       own.since area.block area.serial may.since g p may.retired (omega (arith, later, from)) here
 
   -- and so has the newest one
-  newest_here : (p : Option Published) → slice_get w.published (newest w.published) ≡ p → is_some p ≡ true
+  newest_here : (p : Option Published) → slice_get w.published (newest_number w.published) ≡ p → is_some p ≡ true
   newest_here (Some p) here = refl
-  newest_here None here = absurd (none_within w.published (newest w.published) (let some = may.published in omega (arith, some)) here) where
+  newest_here None here = absurd (none_within w.published (newest_number w.published) (let some = may.published in omega (arith, some)) here) where
     none_within : (ps : List Published) (g : ℕ) → g < length ps → slice_get ps g ≡ None → ⊥
     none_within [] g less at = absurd (omega (arith))
     none_within (q ∷ qs) zero less at = (cc)
     none_within (q ∷ qs) (suc g) less at = none_within qs g (omega (arith)) at
 
   released_by : (k : KeptArea) → k.area.serial ≡ area.serial → is_released w 0 k ≡ true
-  released_by k same = of (slice_get w.published (newest w.published)) refl (newest_here (slice_get w.published (newest w.published)) refl) where
-    of : (p : Option Published) → slice_get w.published (newest w.published) ≡ p → is_some p ≡ true → is_released w 0 k ≡ true
+  released_by k same = of (slice_get w.published (newest_number w.published)) refl (newest_here (slice_get w.published (newest_number w.published)) refl) where
+    of : (p : Option Published) → slice_get w.published (newest_number w.published) ≡ p → is_some p ≡ true → is_released w 0 k ≡ true
     of None here there = absurd (cc)
     of (Some p) here there =
         let published = may.published in
-        let told = own.since area.block area.serial may.since (newest w.published) p may.retired (omega (arith, published)) here in
-        ap (λ (o : Option Published). is_released_at o 0 k) here ∙ ap (is_retired p) same ∙ told.retired
+        let told = own.since area.block area.serial may.since (newest_number w.published) p may.retired (omega (arith, published)) here in
+        ap (λ (o : Option Published). is_released_at o 0 k) here ∙ ap (is_retired_area p) same ∙ told.retired
 
   fits_released : FitsRetire w area.block 0
   fits_released = record {

@@ -9,9 +9,9 @@ use Rattle.term_core.specs.declared.area.AreaRef.{AreaRef}
 use Rattle.term_core.specs.declared.generation.AreaWords.{AreaWords}
 use Rattle.area_core.specs.declared.table.Published.{Published}
 use Rattle.area_core.specs.declared.table.KeptArea.{KeptArea}
-use Rattle.area_core.specs.Generations.{is_kept, is_reached, is_retired, is_used}
+use Rattle.area_core.specs.Generations.{is_kept, is_reached, is_retired_area, is_used}
 use Rattle.area_core.specs.Blocks.{Among}
-use Rattle.area_core.specs.Roots.{image_of, fresh_in, fresh_areas}
+use Rattle.area_core.specs.Roots.{serial_image, fresh_in, fresh_areas}
 use Rattle.area_core.proofs.RootTests.{in_either}
 use Rattle.marks.specs.declared.kept.WriterKept.{WriterKept}
 use Rattle.shared_words.specs.declared.view.NamedAnchor.{NamedAnchor}
@@ -44,7 +44,7 @@ fresh_listed : (kept : List KeptArea) (images : List AreaWords) (areas : List Ar
 fresh_listed kept images [] i k at = absurd (no_element i at)
 fresh_listed kept images (a ∷ areas) i k at =
     elim (in_either (fresh_in kept images a) (flat_map (fresh_in kept images) areas) i k at) as (λ _. Among (a ∷ areas) k.area) [
-      | inl here ↦ (0, ap Some (sym (one_fresh (is_kept kept a.serial) (image_of images a.serial) a i k here)))
+      | inl here ↦ (0, ap Some (sym (one_fresh (is_kept kept a.serial) (serial_image images a.serial) a i k here)))
       | inr behind ↦ (let found = fresh_listed kept images areas behind.0 k behind.2 in (suc found.0, found.1))
     ]
 
@@ -88,7 +88,7 @@ module _ (s : Areas) (w : WriterView) (own : AreOf s w) (p : Published) (listed 
     reached = λ g q counts here. each_of (λ g q. MayBeRead w g → (area : AreaRef) → Among q.areas area → IsTrue (is_reached q area.serial) → Stands s area)
         (λ counts area among reaches. listed.stand area among) (λ g q at counts. own.reached g q counts at) g q here counts;
     taken = λ q area published among. each_of (λ g q. Among q.areas area → area.serial < s.next) (λ among. own.sound.below area.block area.serial (listed.stand area among)) (λ g q at among. own.taken q area (g, at) among) published.0 q published.1 among;
-    past = λ q n published is. each_of (λ g q. IsTrue (is_retired q n) → IsPast s n) (λ is. listed.past n is) (λ g q at is. own.past q n (g, at) is) published.0 q published.1 is;
+    past = λ q n published is. each_of (λ g q. IsTrue (is_retired_area q n) → IsPast s n) (λ is. listed.past n is) (λ g q at is. own.past q n (g, at) is) published.0 q published.1 is;
     since = λ block n first g q is le here. each_of (λ g q. first ≤ g → HasRetired q n) (λ le. has_retired block n first is) (λ g q at le. own.since block n first g q is le at) g q here le;
   }
 

@@ -11,7 +11,7 @@ use Rattle.area_core.specs.declared.map.WordKind.TheVariants.{InBlock}
 use Rattle.area_core.specs.declared.table.Published.{Published}
 use Rattle.area_core.specs.declared.table.KeptArea.{KeptArea}
 use Rattle.area_core.specs.Map.{word_at, kind_at, block_place, retire_place, doom_place, room_of}
-use Rattle.area_core.specs.Generations.{is_doomed, is_reached, is_retired, tells}
+use Rattle.area_core.specs.Generations.{is_doomed_area, is_reached, is_retired_area, tells}
 use Rattle.area_core.specs.Blocks.{Among}
 use Rattle.area_core.specs.Readers.{reads_in_block, reaches_block}
 use Rattle.area_core.proofs.Places.{kind_block, kind_retire, kind_doom, word_here, word_there}
@@ -182,9 +182,9 @@ module _ (s : Areas) (w : WriterView) (own : AreOf s w) (area : AreaRef) (live :
   since = length w.published
 
   -- no generation has retired a live area
-  unretired : (g : ℕ) (p : Published) → slice_get w.published g ≡ Some p → (n : ℕ) → n ≡ area.serial → is_retired p n ≡ false
+  unretired : (g : ℕ) (p : Published) → slice_get w.published g ≡ Some p → (n : ℕ) → n ≡ area.serial → is_retired_area p n ≡ false
   unretired g p here n same =
-      elim (cases_Bool (is_retired p n)) as (λ _. is_retired p n ≡ false) [
+      elim (cases_Bool (is_retired_area p n)) as (λ _. is_retired_area p n ≡ false) [
         | inl retired ↦ absurd ((own.past p n (g, here) retired).dead area.block (live ∙ ap (λ (x : ℕ). Some (Live x)) (sym same)))
         | inr not ↦ not
       ]
@@ -238,7 +238,7 @@ module _ (s : Areas) (w : WriterView) (own : AreOf s w) (area : AreaRef) (live :
 
 module _ (s : Areas) (w : WriterView) (own : AreOf s w) (area : AreaRef) (live : IsLive s area) (undoomed : IsUndoomed w area) where
   fits_doomed : FitsDoom w area.block (length w.published)
-  fits_doomed = λ g p counts here k among same unretired. late (length w.published) g (slice_get_within w.published g p here) ∙ sym (ap (is_doomed p) (same_area s w own area live k.area (own.kept k among) same) ∙ undoomed g p counts here)
+  fits_doomed = λ g p counts here k among same unretired. late (length w.published) g (slice_get_within w.published g p here) ∙ sym (ap (is_doomed_area p) (same_area s w own area live k.area (own.kept k among) same) ∙ undoomed g p counts here)
 
   -- it may be stored
   pub may_doom : area.block < BIG_BLOCKS → MayStoreWord w (doom_place area.block) (length w.published)

@@ -31,10 +31,10 @@ is_live (Live serial) = true
 is_live (Retired serial since) = false
 
 -- it has a retired area
-abbrev pub is_retired : BlockUse → Bool
-is_retired Free = false
-is_retired (Live serial) = false
-is_retired (Retired serial since) = true
+abbrev pub is_retired_block : BlockUse → Bool
+is_retired_block Free = false
+is_retired_block (Live serial) = false
+is_retired_block (Retired serial since) = true
 
 -- the serial of its area, if it has one
 abbrev pub serial_of : BlockUse → Option ℕ
@@ -112,7 +112,7 @@ AreAllLive blocks = IsTrue (list_all is_live blocks)
 -- no block of a pool is free, and one is retired
 pub record AwaitsRelease (blocks : List BlockUse) : Type 0 where
   pub full : list_any is_free blocks ≡ false
-  pub some : IsTrue (list_any is_retired blocks)
+  pub some : IsTrue (list_any is_retired_block blocks)
 
 -- the block is a free one of the pool
 pub record IsFreeIn (pool : Pool) (s : Areas) (block : ℕ) : Type 0 where

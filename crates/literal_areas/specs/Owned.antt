@@ -5,7 +5,7 @@ use Rattle.term_core.specs.declared.area.AreaRef.{AreaRef}
 use Rattle.area_core.specs.declared.map.TheConstants.{TABLE_WORDS}
 use Rattle.area_core.specs.declared.table.Published.{Published}
 use Rattle.area_core.specs.declared.table.KeptArea.{KeptArea}
-use Rattle.area_core.specs.Generations.{is_reached, is_retired, is_used}
+use Rattle.area_core.specs.Generations.{is_reached, is_retired_area, is_used}
 use Rattle.area_core.specs.Blocks.{Among}
 use Rattle.area_core.specs.Step.{opening_published}
 use Rattle.shared_words.specs.declared.view.WriterView.{WriterView}
@@ -21,7 +21,7 @@ pub record IsPast (s : Areas) (serial : ℕ) : Type 0 where
 
 -- the generation of this number has the area among its retired ones, and does not use it
 pub record HasRetired (p : Published) (serial : ℕ) : Type 0 where
-  pub retired : IsTrue (is_retired p serial)
+  pub retired : IsTrue (is_retired_area p serial)
   pub unused : is_used p serial ≡ false
 
 -- the pools are those of the writer who knows this
@@ -37,7 +37,7 @@ pub record AreOf (s : Areas) (w : WriterView) : Type 0 where
   -- published areas were taken
   pub taken : (p : Published) (area : AreaRef) → Among w.published p → Among p.areas area → area.serial < s.next
   -- what a generation has retired is live no more
-  pub past : (p : Published) (serial : ℕ) → Among w.published p → IsTrue (is_retired p serial) → IsPast s serial
+  pub past : (p : Published) (serial : ℕ) → Among w.published p → IsTrue (is_retired_area p serial) → IsPast s serial
   -- a retired area is retired in each generation from the first one that retires it on
   pub since : (block serial first g : ℕ) (p : Published) → use_of s block ≡ Some (Retired serial first) → first ≤ g → slice_get w.published g ≡ Some p → HasRetired p serial
 
@@ -63,5 +63,5 @@ AreAtFirst s = (w : WriterView) → IsAtFirst w → AreOf s w
 pub record IsListed (s : Areas) (p : Published) : Type 0 where
   pub stand : (area : AreaRef) → Among p.areas area → Stands s area
   pub used : (serial : ℕ) → IsTrue (is_used p serial) → (block : ℕ) × (use_of s block ≡ Some (Live serial))
-  pub retired : (block serial first : ℕ) → use_of s block ≡ Some (Retired serial first) → IsTrue (is_retired p serial)
-  pub past : (serial : ℕ) → IsTrue (is_retired p serial) → IsPast s serial
+  pub retired : (block serial first : ℕ) → use_of s block ≡ Some (Retired serial first) → IsTrue (is_retired_area p serial)
+  pub past : (serial : ℕ) → IsTrue (is_retired_area p serial) → IsPast s serial

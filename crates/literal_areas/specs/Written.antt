@@ -5,7 +5,7 @@ use Rattle.term_core.specs.declared.area.AreaRef.{AreaRef}
 use Rattle.area_core.specs.declared.map.TheConstants.{BLOCKS}
 use Rattle.area_core.specs.declared.table.KeptArea.{KeptArea}
 use Rattle.area_core.specs.Map.{word_at, block_place, room_of}
-use Rattle.area_core.specs.Generations.{is_doomed}
+use Rattle.area_core.specs.Generations.{is_doomed_area}
 use Rattle.area_core.specs.Blocks.{Among}
 use Rattle.shared_words.specs.declared.view.WriterView.{WriterView}
 use Rattle.shared_words.specs.Publishing.{EachMayBeRead}
@@ -28,4 +28,4 @@ IsPublished w area = (k : KeptArea) × Among w.kept k × (k.area ≡ area)
 
 -- no generation that may be read has doomed the area
 abbrev pub IsUndoomed : WriterView → AreaRef → Type 0
-IsUndoomed w area = EachMayBeRead w (λ g p. is_doomed p area.serial ≡ false)
+IsUndoomed w area = EachMayBeRead w (λ g p. is_doomed_area p area.serial ≡ false)

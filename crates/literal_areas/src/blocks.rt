@@ -3,7 +3,7 @@
 ghost use Rattle.std.specs.Prelude.{◌≡◌, ◌<◌, length, replicate, slice_get, slice_set, IfOk};
 ghost use Rattle.std.specs.List.{list_any, position};
 ghost use Rattle.std.specs.Option.{option_and_then};
-ghost use Rattle.literal_areas.specs.Blocks.{is_free, is_retired, serial_of};
+ghost use Rattle.literal_areas.specs.Blocks.{is_free, is_retired_block, serial_of};
 
 use std::alloc::Global;
 use std::marker::Model;
@@ -68,7 +68,7 @@ impl BlockList {
 
     /// Whether some block is retired.
     pub fn has_retired(&self) -> bool
-        ensures { result ≡ list_any is_retired self.now }
+        ensures { result ≡ list_any is_retired_block self.now }
     {
         self.uses.iter().any(|used| is_retired(*used))
     }
@@ -102,7 +102,7 @@ fn is_free(used: BlockUse) -> bool
 
 /// Whether the area in the block is retired.
 fn is_retired(used: BlockUse) -> bool
-    ensures { result ≡ is_retired used }
+    ensures { result ≡ is_retired_block used }
 {
     match used {
         BlockUse::Free => false,

@@ -9,10 +9,10 @@ use Rattle.mod_core.specs.declared.code.Module.{Module}
 use Rattle.mod_core.specs.ModuleImage.{function_place, place_in}
 use Rattle.server_core.specs.ServerState.{Entry}
 use Rattle.machine_core.specs.Decode.{instr_shown, op_at}
-use Rattle.machine_core.specs.GenerationReads.{function_count, instr_in, reads_in, shown_in, words_in}
+use Rattle.machine_core.specs.GenerationReads.{function_count, instr_under, reads_in, shown_in, words_in}
 use Rattle.machine_core.specs.Process.{PlainFrame}
 use Rattle.machine_core.specs.ServerReads.{module_instr}
-use Rattle.machine_core.specs.View.{IsFunctionOf, IsImageOf, IsOfModule, Shown}
+use Rattle.machine_core.specs.View.{IsReadFunction, IsImageOf, IsOfModule, Shown}
 use Rattle.machine_core.proofs.CalledNames.{named_from}
 use Rattle.machine_core.proofs.Fetching.{fetched_next}
 use Rattle.machine_core.proofs.NextInstr.{IsNext, instr_is, instr_stands}
@@ -20,7 +20,7 @@ use Rattle.machine_core.proofs.Viewing.{entry_at}
 
 module _ (names : List Mfa) (block : ℕ → ℕ) (g : Generation) (shown : Shown) (serial : ℕ) (m : Module) (is : IsOfModule shown serial m) (same : words_in g serial ≡ shown.words serial) where
   instr_read : (i number : ℕ) (f : Function) → slice_get m.functions i ≡ Some f → number ≤ length f.code →
-      instr_in g (record { serial = serial; function = i }) (place_in (function_place m i) f.code number) ≡ module_instr m i (place_in (function_place m i) f.code number)
+      instr_under g (record { serial = serial; function = i }) (place_in (function_place m i) f.code number) ≡ module_instr m i (place_in (function_place m i) f.code number)
   instr_read i number f found within =
       let place = place_in (function_place m i) f.code number in
       let e : Entry = record { serial = serial; function = i } in
@@ -30,7 +30,7 @@ module _ (names : List Mfa) (block : ℕ → ℕ) (g : Generation) (shown : Show
       let fetched = fetched_next shown area frame refl refl next (instr_stands shown frame next) in
       ap (λ words. instr_shown words (op_at words place)) same ∙ fetched.back.shows ∙ (is.functions i f found).instrs number within
 
-  function_read : (i : ℕ) (f : Function) → slice_get m.functions i ≡ Some f → IsFunctionOf (reads_in names g) (record { serial = serial; function = i }) m f
+  function_read : (i : ℕ) (f : Function) → slice_get m.functions i ≡ Some f → IsReadFunction (reads_in names g) (record { serial = serial; function = i }) m f
   function_read i f found =
       let e : Entry = record { serial = serial; function = i } in
       let within = slice_get_within m.functions i f found in

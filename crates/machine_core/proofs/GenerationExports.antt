@@ -8,7 +8,7 @@ use Rattle.term_core.specs.declared.generation.FunctionRef.{FunctionRef}
 use Rattle.mod_core.specs.declared.code.Module.{Module}
 use Rattle.server_core.specs.Generations.{AreNumbered, function_ref, generation_of, is_same_name, number_of_name}
 use Rattle.server_core.specs.ServerState.{Entry, IsSound, ServerState, code_of, current_of, dispatch_of, export_of}
-use Rattle.machine_core.specs.GenerationReads.{exported, place_within, reads_in}
+use Rattle.machine_core.specs.GenerationReads.{exported_under, place_within, reads_in}
 use Rattle.machine_core.specs.Reads.{dispatched}
 use Rattle.machine_core.specs.ServerReads.{reads_of}
 use Rattle.machine_core.proofs.GenerationCalls.{current_is}
@@ -47,7 +47,7 @@ module _ (names : List Mfa) (s : ServerState) (numbered : AreNumbered names s) w
       ∙ ap reached (same_name to (get_or names n to) found.1)
 
   -- the entry at the number of a name
-  pub exported_is : (to : Mfa) → exported names (generation_of names s) to ≡ option_map function_ref (dispatch_of s to)
+  pub exported_is : (to : Mfa) → exported_under names (generation_of names s) to ≡ option_map function_ref (dispatch_of s to)
   exported_is to = at_number to (number_of_name names to) refl
 
 -- a function of this instance
@@ -81,7 +81,7 @@ dispatched_read s to = read_current s to (current_of s to.«module».0)
 
 module _ (names : List Mfa) (s : ServerState) (sound : IsSound s) (numbered : AreNumbered names s) where
   by_current : (to : Mfa) (o : Option ℕ) → current_of s to.«module».0 ≡ o →
-      option_and_then (λ serial. option_map (entry_of_serial serial) (option_and_then (place_within serial) (exported names (generation_of names s) to))) o ≡ dispatch_of s to
+      option_and_then (λ serial. option_map (entry_of_serial serial) (option_and_then (place_within serial) (exported_under names (generation_of names s) to))) o ≡ dispatch_of s to
   by_current to None e = rw e refl
   by_current to (Some serial) e =
       let is : dispatch_of s to ≡ option_and_then (λ m. option_map (entry_of_serial serial) (export_of m to)) (code_of s serial) = rw e refl in
@@ -91,5 +91,5 @@ module _ (names : List Mfa) (s : ServerState) (sound : IsSound s) (numbered : Ar
   -- what is read of a generation
   pub dispatched_is : (to : Mfa) → dispatched (reads_in names (generation_of names s)) to ≡ dispatch_of s to
   dispatched_is to =
-      ap (λ o. option_and_then (λ serial. option_map (entry_of_serial serial) (option_and_then (place_within serial) (exported names (generation_of names s) to))) o) (current_is names s sound to.«module».0)
+      ap (λ o. option_and_then (λ serial. option_map (entry_of_serial serial) (option_and_then (place_within serial) (exported_under names (generation_of names s) to))) o) (current_is names s sound to.«module».0)
       ∙ by_current to (current_of s to.«module».0) refl

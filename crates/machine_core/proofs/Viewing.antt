@@ -16,7 +16,7 @@ use Rattle.mod_core.proofs.Places.{function_stands, place_word}
 use Rattle.server_core.specs.ServerState.{Entry, HasItsArea, IsPersistent, IsShortTerm, IsSound, IsTermArea, Persistent, ServerState, code_of, export_of, first_words, instance_image, is_export, persistent_of, term_of_area, word_of, words_of_area}
 use Rattle.machine_core.specs.Reads.{HasFunction}
 use Rattle.machine_core.specs.ServerReads.{persistent_value, place_of, reads_of}
-use Rattle.machine_core.specs.View.{IsFunctionOf, IsImageOf, IsKeyValue, IsLawful, IsLoaded, IsOfModule, IsTermIn, Shown, server_words, shown_of}
+use Rattle.machine_core.specs.View.{IsReadFunction, IsImageOf, IsKeyValue, IsLawful, IsLoaded, IsOfModule, IsTermIn, Shown, server_words, shown_of}
 
 -- ---- what is read of a state
 
@@ -34,7 +34,7 @@ image_word serial (suc at) m h = refl
 instance_is : (serial : ℕ) (m : Module) → IsImageOf m (instance_image serial m)
 instance_is serial m = record { whole = image_len serial m; same = λ at place h. image_word serial at m h }
 
-function_is : (s : ServerState) (serial : ℕ) (m : Module) (i : ℕ) (f : Function) → code_of s serial ≡ Some m → slice_get m.functions i ≡ Some f → IsFunctionOf (reads_of s) (record { serial = serial; function = i }) m f
+function_is : (s : ServerState) (serial : ℕ) (m : Module) (i : ℕ) (f : Function) → code_of s serial ≡ Some m → slice_get m.functions i ≡ Some f → IsReadFunction (reads_of s) (record { serial = serial; function = i }) m f
 function_is s serial m i f c found = record { name = rw (c, found) refl; arity = rw (c, found) refl; first = rw c refl; instrs = λ number within. rw c refl }
 
 pub is_of_module : (s : ServerState) (serial : ℕ) (m : Module) → IsModule m → code_of s serial ≡ Some m → IsOfModule (shown_of s) serial m

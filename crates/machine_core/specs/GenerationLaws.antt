@@ -9,7 +9,7 @@ use Rattle.machine_core.specs.declared.process.LitRef.{LitRef}
 use Rattle.machine_core.specs.declared.process.Process.{Process}
 use Rattle.machine_core.specs.declared.process.Value.{Value}
 use Rattle.machine_core.specs.declared.process.Value.TheVariants.{Owned, Literal}
-use Rattle.machine_core.specs.GenerationReads.{exported, found_held, holding_among, reads_in, shown_in, words_in}
+use Rattle.machine_core.specs.GenerationReads.{exported_under, found_held, holding_among, reads_in, shown_in, words_in}
 use Rattle.machine_core.specs.Holds.{Holds}
 use Rattle.machine_core.specs.Process.{PlainFrame, PlainProcess, process_of}
 use Rattle.machine_core.specs.Reads.{dispatched, found_of}
@@ -30,7 +30,7 @@ pub record ReachesSame (names : List Mfa) (s : ServerState) (to : Mfa) : Type 0 
   -- by the name of the current instance's module, and by what it exports, it is what the state's current code of the module exports
   pub read : dispatched (reads_in names (generation_of names s)) to ≡ dispatch_of s to
   -- the export table has that at the number of the name
-  pub tabled : exported names (generation_of names s) to ≡ option_map function_ref (dispatch_of s to)
+  pub tabled : exported_under names (generation_of names s) to ≡ option_map function_ref (dispatch_of s to)
 
 -- so each call does
 abbrev pub CallsReachSame : List Mfa → ServerState → Type 0

@@ -48,20 +48,20 @@ function_count words = if is_term_image words then 0 else slice_index words 3
 -- ---- functions
 
 -- where the row of a function stands in the table of its instance: name, arity and export, entry word, place of the first instruction
-abbrev pub row_of : Entry → ℕ
-row_of e = 4 + 4 * e.function
+abbrev pub function_row : Entry → ℕ
+function_row e = 4 + 4 * e.function
 
 -- the instruction of an instance at a place
-abbrev pub instr_in : Generation → Entry → ℕ → Instr
-instr_in g e place = instr_shown (words_in g e.serial) (op_at (words_in g e.serial) place)
+abbrev pub instr_under : Generation → Entry → ℕ → Instr
+instr_under g e place = instr_shown (words_in g e.serial) (op_at (words_in g e.serial) place)
 
 -- whether the plain numbers are those of a function
 abbrev pub is_function : Entry → FunctionRef → Bool
 is_function e f = f.serial == e.serial && f.function == e.function
 
 -- what the export table has at the number of a name; nothing where the name has none
-abbrev pub exported : List Mfa → Generation → Mfa → Option FunctionRef
-exported names g to = option_and_then (λ n. unwrap_or (slice_get g.exports n) None) (number_of_name names to)
+abbrev pub exported_under : List Mfa → Generation → Mfa → Option FunctionRef
+exported_under names g to = option_and_then (λ n. unwrap_or (slice_get g.exports n) None) (number_of_name names to)
 
 -- the place of a function, if it is one of this instance
 abbrev pub place_within : ℕ → FunctionRef → Option ℕ
@@ -92,13 +92,13 @@ abbrev pub reads_in : List Mfa → Generation → Reads
 reads_in names g =
     record {
       current = λ name. find (λ serial. slice_index (words_in g serial) 1 == name) g.current;
-      export = λ serial to. option_and_then (place_within serial) (exported names g to);
+      export = λ serial to. option_and_then (place_within serial) (exported_under names g to);
       functions = λ serial. function_count (words_in g serial);
       module_name = λ serial. record { 0 = slice_index (words_in g serial) 1 };
-      function_name = λ e. record { 0 = slice_index (words_in g e.serial) (row_of e) };
-      arity = λ e. slice_index (words_in g e.serial) (row_of e + 1) / 2;
-      first = λ e. slice_index (words_in g e.serial) (row_of e + 3);
-      instr = instr_in g;
+      function_name = λ e. record { 0 = slice_index (words_in g e.serial) (function_row e) };
+      arity = λ e. slice_index (words_in g e.serial) (function_row e + 1) / 2;
+      first = λ e. slice_index (words_in g e.serial) (function_row e + 3);
+      instr = instr_under g;
       traced = λ e. list_any (is_function e) g.traced;
       key = λ key. option_map (held_value g) (holding_among g.keys key);
       is_term = λ serial. is_term_image (words_in g serial);

@@ -4,11 +4,11 @@ use Rattle.std.specs.Prelude.{◌≡◌, ℕ, IsTrue, Some, ◌⊎◌}
 use Rattle.term_core.specs.declared.hold.Kind.{Kind}
 use Rattle.term_core.specs.declared.hold.Kind.TheVariants.{Frame, Literal}
 use Rattle.machine_core.specs.Holds.{Holds, is_held}
-use Rattle.machine_core.specs.Reads.{IsCurrent, Reads, key_area}
+use Rattle.machine_core.specs.Reads.{IsCurrent, Reads, key_area_read}
 
 -- a key holds the complex term with this area
 abbrev pub IsKeyArea : Reads → ℕ → Type 0
-IsKeyArea r serial = (key : ℕ) × (key_area r key ≡ Some serial)
+IsKeyArea r serial = (key : ℕ) × (key_area_read r key ≡ Some serial)
 
 -- what a turn may newly hold: current instances for frames, and for literals the areas of keys and the instances of frames
 abbrev pub Reach : Reads → Holds → ℕ → Kind → Type 0

@@ -67,8 +67,8 @@ area_of (owned term) = None
 area_of (literal serial term) = Some serial
 
 -- the area of the complex term that a key holds, if it holds one
-abbrev pub key_area : Reads → ℕ → Option ℕ
-key_area r key = option_and_then area_of (r.key key)
+abbrev pub key_area_read : Reads → ℕ → Option ℕ
+key_area_read r key = option_and_then area_of (r.key key)
 
 -- what a reader finds of what a key holds: nothing, the word of an integer or an atom, or the area of another term
 abbrev pub found_of : Option PlainValue → KeyFound

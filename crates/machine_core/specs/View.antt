@@ -60,7 +60,7 @@ pub record IsImageOf (m : Module) (words : List ℕ) : Type 0 where
   pub same : (at : ℕ) → IsImagePlace m at → 1 ≤ at → slice_index words at ≡ slice_index (module_image m) at
 
 -- what is read of a function of an instance is what its module says of it
-pub record IsFunctionOf (r : Reads) (e : Entry) (m : Module) (f : Function) : Type 0 where
+pub record IsReadFunction (r : Reads) (e : Entry) (m : Module) (f : Function) : Type 0 where
   pub name : r.function_name e ≡ f.name
   pub arity : r.arity e ≡ f.arity
   pub first : r.first e ≡ function_place m e.function
@@ -71,7 +71,7 @@ pub record IsOfModule (shown : Shown) (serial : ℕ) (m : Module) : Type 0 where
   pub sound : IsModule m
   pub name : shown.reads.module_name serial ≡ m.name
   pub count : shown.reads.functions serial ≡ length m.functions
-  pub functions : (i : ℕ) (f : Function) → slice_get m.functions i ≡ Some f → IsFunctionOf shown.reads (record { serial = serial; function = i }) m f
+  pub functions : (i : ℕ) (f : Function) → slice_get m.functions i ≡ Some f → IsReadFunction shown.reads (record { serial = serial; function = i }) m f
   pub image : IsImageOf m (shown.words serial)
 
 -- the instance is one of a sound module

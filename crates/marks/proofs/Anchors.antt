@@ -8,7 +8,7 @@ use Rattle.area_core.specs.Blocks.{Among}
 use Rattle.marks.specs.declared.kept.LookKind.{LookKind}
 use Rattle.marks.specs.declared.kept.LookKind.TheVariants.{Frame, Both}
 use Rattle.marks.specs.declared.mark.ProcessView.{ProcessView}
-use Rattle.marks.specs.Names.{names_in, HasAnchor, Names, last_names, IsAtRest}
+use Rattle.marks.specs.Names.{names_in, HasAnchor, MarkNames, last_names, IsAtRest}
 use Rattle.marks.specs.Kept.{Under, comes_to}
 use Rattle.marks.specs.Steps.{MayBecome}
 
@@ -19,23 +19,23 @@ pub frame_in : (kind : LookKind) (word serial : ℕ) → names_frame word serial
 frame_in Frame word serial e = e
 frame_in Both word serial e = or_left (names_frame word serial) (names_literal word serial) e
 
-pub frames_in : (kind : LookKind) (anchors : List ℕ) (serial : ℕ) → HasAnchor names_frame anchors serial → Names kind anchors serial
+pub frames_in : (kind : LookKind) (anchors : List ℕ) (serial : ℕ) → HasAnchor names_frame anchors serial → MarkNames kind anchors serial
 frames_in kind anchors serial n = record { place = n.place; word = n.word; at = n.at; passes = frame_in kind n.word serial n.passes }
 
-pub literals_in : (anchors : List ℕ) (serial : ℕ) → HasAnchor names_literal anchors serial → Names Both anchors serial
+pub literals_in : (anchors : List ℕ) (serial : ℕ) → HasAnchor names_literal anchors serial → MarkNames Both anchors serial
 literals_in anchors serial n = record { place = n.place; word = n.word; at = n.at; passes = or_right (names_frame n.word serial) (names_literal n.word serial) n.passes }
 
 -- where frames and literals are named in one slot as in another, so is either kind
-named_as : (one other : List ℕ) (serial : ℕ) → (HasAnchor names_frame one serial → HasAnchor names_frame other serial) → (HasAnchor names_literal one serial → HasAnchor names_literal other serial) → (kind : LookKind) → Names kind one serial → Names kind other serial
+named_as : (one other : List ℕ) (serial : ℕ) → (HasAnchor names_frame one serial → HasAnchor names_frame other serial) → (HasAnchor names_literal one serial → HasAnchor names_literal other serial) → (kind : LookKind) → MarkNames kind one serial → MarkNames kind other serial
 named_as one other serial frames literals Frame n = frames n
 named_as one other serial frames literals Both n =
-    elim (or_cases (names_frame n.word serial) (names_literal n.word serial) n.passes) as (λ _. Names Both other serial) [
+    elim (or_cases (names_frame n.word serial) (names_literal n.word serial) n.passes) as (λ _. MarkNames Both other serial) [
       | inl frame ↦ frames_in Both other serial (frames (record { place = n.place; word = n.word; at = n.at; passes = frame }))
       | inr literal ↦ literals_in other serial (literals (record { place = n.place; word = n.word; at = n.at; passes = literal }))
     ]
 
 -- and what the last mark names the slot names
-pub last_rest : (p : ProcessView) → IsAtRest p → (kind : LookKind) (serial : ℕ) → Names kind (last_names p.marks) serial → Names kind p.slot.anchors serial
+pub last_rest : (p : ProcessView) → IsAtRest p → (kind : LookKind) (serial : ℕ) → MarkNames kind (last_names p.marks) serial → MarkNames kind p.slot.anchors serial
 last_rest p rest kind serial = named_as (last_names p.marks) p.slot.anchors serial (rest.frames serial).1 (rest.literals serial).1 kind
 
 -- what no turn comes to in either kind is no current instance
@@ -72,11 +72,11 @@ stays_elsewhere (z ∷ zs) (suc k) y (suc j) x differs at = stays_elsewhere zs k
 
 module _ (u : Under) (anchors : List ℕ) (place old new : ℕ) (at : slice_get anchors place ≡ Some old) (may : MayBecome u old new) where
   -- what is named after it was named before, or a turn comes to it
-  pub named_before : (kind : LookKind) (serial : ℕ) → Names kind (slice_set anchors place new) serial → Names kind anchors serial ⊎ (comes_to u kind serial ≡ true)
+  pub named_before : (kind : LookKind) (serial : ℕ) → MarkNames kind (slice_set anchors place new) serial → MarkNames kind anchors serial ⊎ (comes_to u kind serial ≡ true)
   named_before kind serial n =
-      elim (slice_get-slice_set anchors place new n.place n.word n.at) as (λ _. Names kind anchors serial ⊎ (comes_to u kind serial ≡ true)) [
+      elim (slice_get-slice_set anchors place new n.place n.word n.at) as (λ _. MarkNames kind anchors serial ⊎ (comes_to u kind serial ≡ true)) [
         | inl here ↦
-            elim (may.newly kind serial (subst (λ (w : ℕ). names_in kind w serial ≡ true) here.1 n.passes)) as (λ _. Names kind anchors serial ⊎ (comes_to u kind serial ≡ true)) [
+            elim (may.newly kind serial (subst (λ (w : ℕ). names_in kind w serial ≡ true) here.1 n.passes)) as (λ _. MarkNames kind anchors serial ⊎ (comes_to u kind serial ≡ true)) [
               | inl named ↦ inl (record { place = place; word = old; at = at; passes = named })
               | inr comes ↦ inr comes
             ]
@@ -84,6 +84,6 @@ module _ (u : Under) (anchors : List ℕ) (place old new : ℕ) (at : slice_get 
       ]
 
   -- what no turn comes to is named after it only where it was before
-  pub named_still : (kind : LookKind) (serial : ℕ) → comes_to u kind serial ≡ false → Names kind (slice_set anchors place new) serial → Names kind anchors serial
+  pub named_still : (kind : LookKind) (serial : ℕ) → comes_to u kind serial ≡ false → MarkNames kind (slice_set anchors place new) serial → MarkNames kind anchors serial
   named_still kind serial gone n =
-      elim (named_before kind serial n) as (λ _. Names kind anchors serial) [ inl before ↦ before | inr comes ↦ absurd (both_ways (comes_to u kind serial) gone comes) ]
+      elim (named_before kind serial n) as (λ _. MarkNames kind anchors serial) [ inl before ↦ before | inr comes ↦ absurd (both_ways (comes_to u kind serial) gone comes) ]

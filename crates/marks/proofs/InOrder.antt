@@ -12,7 +12,7 @@ use Rattle.marks.specs.declared.kept.WriterKept.{WriterKept}
 use Rattle.marks.specs.declared.mark.Mark.{Mark}
 use Rattle.marks.specs.declared.mark.ProcessView.{ProcessView}
 use Rattle.marks.specs.Names.{IsAtRest}
-use Rattle.marks.specs.Kept.{Under, mark_now, last_up_to, NamesNot, Lingers, IsKnown}
+use Rattle.marks.specs.Kept.{Under, mark_now, last_mark_up_to, MarksNameNot, LingersByMarks, IsKnown}
 use Rattle.marks.specs.InOrder.{last_turn_up_to, LingersAfter}
 use Rattle.marks.proofs.Anchors.{has_element}
 use Rattle.marks.proofs.Dropped.{dropped_rest}
@@ -29,18 +29,18 @@ last_more n (x ∷ turns) m = ap (λ (o : Option Mark). cond (is_some o) o (cond
     by_case false = refl
 
 -- the last turn is the newest mark
-last_reverse : (n : ℕ) (marks : List Mark) → last_turn_up_to n (reverse marks) ≡ last_up_to n marks
+last_reverse : (n : ℕ) (marks : List Mark) → last_turn_up_to n (reverse marks) ≡ last_mark_up_to n marks
 last_reverse n [] = refl
 last_reverse n (m ∷ marks) = ap (last_turn_up_to n) (reverse_onto marks m []) ∙ last_more n (reverse marks) m ∙ ap (cond (nat_le m.generation n) (Some m)) (last_reverse n marks)
 
-in_order : (n : ℕ) (marks : List Mark) (P : Mark → Type 0) → IfSome (last_up_to n marks) P → IfSome (last_turn_up_to n (reverse marks)) P
+in_order : (n : ℕ) (marks : List Mark) (P : Mark → Type 0) → IfSome (last_mark_up_to n marks) P → IfSome (last_turn_up_to n (reverse marks)) P
 in_order n marks P some = subst (λ (o : Option Mark). IfSome o P) (sym (last_reverse n marks)) some
 
-pub drop_true : (u : Under) (process : ℕ) (p : ProcessView) (k : WriterKept) (d : DroppedArea) → IsKnown u process p k → IsAtRest p → Among k.dropped d → IfSome (last_turn_up_to d.generation (reverse p.marks)) (NamesNot d.wait.kind d.wait.serial)
-drop_true u process p k d s rest among = in_order d.generation p.marks (NamesNot d.wait.kind d.wait.serial) (dropped_rest d p u.generation process s.falling rest (s.dropped d among))
+pub drop_true : (u : Under) (process : ℕ) (p : ProcessView) (k : WriterKept) (d : DroppedArea) → IsKnown u process p k → IsAtRest p → Among k.dropped d → IfSome (last_turn_up_to d.generation (reverse p.marks)) (MarksNameNot d.wait.kind d.wait.serial)
+drop_true u process p k d s rest among = in_order d.generation p.marks (MarksNameNot d.wait.kind d.wait.serial) (dropped_rest d p u.generation process s.falling rest (s.dropped d among))
 
-pub drop_true_under_way : (u : Under) (process : ℕ) (p : ProcessView) (k : WriterKept) (d : DroppedArea) → IsKnown u process p k → Among k.dropped d → IfSome (last_turn_up_to d.generation (reverse (mark_now u.generation p ∷ p.marks))) (NamesNot d.wait.kind d.wait.serial)
-drop_true_under_way u process p k d s among = in_order d.generation (mark_now u.generation p ∷ p.marks) (NamesNot d.wait.kind d.wait.serial) (s.dropped d among).marks
+pub drop_true_under_way : (u : Under) (process : ℕ) (p : ProcessView) (k : WriterKept) (d : DroppedArea) → IsKnown u process p k → Among k.dropped d → IfSome (last_turn_up_to d.generation (reverse (mark_now u.generation p ∷ p.marks))) (MarksNameNot d.wait.kind d.wait.serial)
+drop_true_under_way u process p k d s among = in_order d.generation (mark_now u.generation p ∷ p.marks) (MarksNameNot d.wait.kind d.wait.serial) (s.dropped d among).marks
 
 -- ---- places
 
@@ -72,7 +72,7 @@ from_reverse xs i j x e at =
 
 -- ---- answers
 
-module _ (l : LingeringFrame) (marks : List Mark) (lingers : Lingers l marks) where
+module _ (l : LingeringFrame) (marks : List Mark) (lingers : LingersByMarks l marks) where
   abbrev turn : ℕ
   turn = l.turns - 1
 

@@ -14,8 +14,8 @@ use Rattle.marks.specs.declared.kept.LingeringFrame.{LingeringFrame}
 use Rattle.marks.specs.declared.kept.WriterKept.{WriterKept}
 use Rattle.marks.specs.declared.mark.Mark.{Mark}
 use Rattle.marks.specs.declared.mark.ProcessView.{ProcessView}
-use Rattle.marks.specs.Names.{names_in, tells_kill, HasAnchor, Names, last_names, IsAtRest}
-use Rattle.marks.specs.Kept.{Under, comes_to, mark_now, last_up_to, NamesNot, IsAsLooked, StaysIn, IsDropped, Lingers, IsNoted, IsKnown, IsBacked, AreOverFor}
+use Rattle.marks.specs.Names.{names_in, tells_kill, HasAnchor, MarkNames, last_names, IsAtRest}
+use Rattle.marks.specs.Kept.{Under, comes_to, mark_now, last_mark_up_to, MarksNameNot, IsAsLooked, StaysIn, IsDropped, LingersByMarks, IsNoted, IsKnown, IsBacked, AreOverFor}
 use Rattle.marks.specs.Steps.{with_anchor, with_turn, with_note, HasNote, MayBecome, IsNextTurn}
 use Rattle.marks.proofs.Anchors.{frame_in, literals_in, no_frame, stays_elsewhere, named_before, named_still}
 use Rattle.marks.proofs.Dropped.{first_or_rest, falling_from, beneath_now, dropped_rest}
@@ -60,12 +60,12 @@ module _ (u : Under) (process : ℕ) (p : ProcessView) (place old new : ℕ) (at
   dropped_stored : (d : DroppedArea) → comes_to u d.wait.kind d.wait.serial ≡ false → IsDropped u.generation process d p → IsDropped u.generation process d (with_anchor p place new)
   dropped_stored d gone dropped = record {
     slot = unnamed;
-    marks = first_or_rest (nat_le u.generation d.generation) (mark_now u.generation (with_anchor p place new)) (last_up_to d.generation p.marks) (NamesNot d.wait.kind d.wait.serial) (λ _. unnamed)
+    marks = first_or_rest (nat_le u.generation d.generation) (mark_now u.generation (with_anchor p place new)) (last_mark_up_to d.generation p.marks) (MarksNameNot d.wait.kind d.wait.serial) (λ _. unnamed)
         (λ beyond. beneath_now d p u.generation dropped.marks beyond);
     told = (told_before, told_after);
   }
     where
-      unnamed : Names d.wait.kind (slice_set p.slot.anchors place new) d.wait.serial → ⊥
+      unnamed : MarkNames d.wait.kind (slice_set p.slot.anchors place new) d.wait.serial → ⊥
       unnamed n = dropped.slot (named_still u p.slot.anchors place old new at may d.wait.kind d.wait.serial gone n)
 
       told_before : HasAnchor tells_kill (slice_set p.slot.anchors place new) d.wait.serial → Among d.killed process
@@ -132,7 +132,7 @@ module _ (u : Under) (p : ProcessView) (turns : ℕ) where
       later (suc i) m at within = stays.later i m at (omega (arith, within))
 
   -- one more mark leaves that the process lingered
-  lingers_more : (l : LingeringFrame) → l.wait.generation ≤ u.generation → Lingers l p.marks → Lingers l (mark_now u.generation p ∷ p.marks)
+  lingers_more : (l : LingeringFrame) → l.wait.generation ≤ u.generation → LingersByMarks l p.marks → LingersByMarks l (mark_now u.generation p ∷ p.marks)
   lingers_more l reached lingers = record {
     some = lingers.some;
     place = suc lingers.place;
@@ -163,7 +163,7 @@ module _ (u : Under) (p : ProcessView) (turns : ℕ) where
   dropped_turn : (process : ℕ) (d : DroppedArea) → IsDropped u.generation process d p → IsDropped u.generation process d (with_turn p u.generation turns)
   dropped_turn process d dropped = record {
     slot = dropped.slot;
-    marks = first_or_rest (nat_le u.generation d.generation) (mark_now u.generation p) (last_up_to d.generation (mark_now u.generation p ∷ p.marks)) (NamesNot d.wait.kind d.wait.serial) (λ _. dropped.slot) (λ _. dropped.marks);
+    marks = first_or_rest (nat_le u.generation d.generation) (mark_now u.generation p) (last_mark_up_to d.generation (mark_now u.generation p ∷ p.marks)) (MarksNameNot d.wait.kind d.wait.serial) (λ _. dropped.slot) (λ _. dropped.marks);
     told = dropped.told;
   }
 
@@ -173,7 +173,7 @@ turn_stored u process p k turns s backed over has next = record {
   rest = inl (turn_rests u p turns);
   current = λ serial n. inl n;
   falling = (omega (arith), s.falling);
-  counted = elim next as (λ _. (turns ≡ length (mark_now u.generation p ∷ p.marks)) ⊎ ((turns ≤ length (mark_now u.generation p ∷ p.marks)) × ((kind : LookKind) (serial : ℕ) → Names kind p.slot.anchors serial → ⊥))) [
+  counted = elim next as (λ _. (turns ≡ length (mark_now u.generation p ∷ p.marks)) ⊎ ((turns ≤ length (mark_now u.generation p ∷ p.marks)) × ((kind : LookKind) (serial : ℕ) → MarkNames kind p.slot.anchors serial → ⊥))) [
     | inl one ↦ inl (omega (arith, one))
     | inr fewer ↦ inr (omega (arith, fewer.0), fewer.1)
   ];
@@ -201,7 +201,7 @@ known_at_rest u v process p k s rest later = record {
   read = s.read;
   dropped = λ d among. record {
     slot = (s.dropped d among).slot;
-    marks = first_or_rest (nat_le v.generation d.generation) (mark_now v.generation p) (last_up_to d.generation p.marks) (NamesNot d.wait.kind d.wait.serial) (λ _. (s.dropped d among).slot)
+    marks = first_or_rest (nat_le v.generation d.generation) (mark_now v.generation p) (last_mark_up_to d.generation p.marks) (MarksNameNot d.wait.kind d.wait.serial) (λ _. (s.dropped d among).slot)
         (λ _. dropped_rest d p u.generation process s.falling rest (s.dropped d among));
     told = (s.dropped d among).told;
   };

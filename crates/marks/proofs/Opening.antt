@@ -9,7 +9,7 @@ use Rattle.area_core.specs.Map.{opening_words}
 use Rattle.area_core.proofs.Counted.{opened}
 use Rattle.marks.specs.declared.kept.LookKind.{LookKind}
 use Rattle.marks.specs.declared.kept.LookKind.TheVariants.{Frame, Both}
-use Rattle.marks.specs.Names.{names_in, HasAnchor, Names}
+use Rattle.marks.specs.Names.{names_in, HasAnchor, MarkNames}
 use Rattle.marks.specs.Kept.{Under, IsKnown}
 use Rattle.marks.specs.Steps.{opening_process, nothing_kept}
 
@@ -30,7 +30,7 @@ nothing i x at = absurd (cc)
 none_last : (test : ℕ → ℕ → Bool) (serial : ℕ) → HasAnchor test [] serial → ⊥
 none_last test serial h = nothing h.place h.word h.at
 
-unnamed : (kind : LookKind) (serial : ℕ) → Names kind (opening_words ANCHORS) serial → ⊥
+unnamed : (kind : LookKind) (serial : ℕ) → MarkNames kind (opening_words ANCHORS) serial → ⊥
 unnamed Frame serial = none_passes names_frame ANCHORS serial refl
 unnamed Both serial = none_passes (names_in Both) ANCHORS serial refl
 

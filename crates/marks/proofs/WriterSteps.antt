@@ -15,9 +15,9 @@ use Rattle.marks.specs.declared.kept.LingeringFrame.{LingeringFrame}
 use Rattle.marks.specs.declared.kept.WriterKept.{WriterKept}
 use Rattle.marks.specs.declared.mark.Mark.{Mark}
 use Rattle.marks.specs.declared.mark.ProcessView.{ProcessView}
-use Rattle.marks.specs.Names.{names_in, tells_kill, HasAnchor, Names, last_names}
-use Rattle.marks.specs.Kept.{Under, mark_now, last_up_to, NamesNot, IsAsLooked, StaysIn, IsAsRead, IsDropped, Lingers, IsKnown, IsBacked, IsOverFor}
-use Rattle.marks.specs.Steps.{with_wait, with_looked, with_read, with_dropped, with_lingering, IsLookedThrough, ToldOfKill}
+use Rattle.marks.specs.Names.{names_in, tells_kill, HasAnchor, MarkNames, last_names}
+use Rattle.marks.specs.Kept.{Under, mark_now, last_mark_up_to, MarksNameNot, IsAsLooked, StaysIn, IsAsRead, IsDropped, LingersByMarks, IsKnown, IsBacked, IsOverFor}
+use Rattle.marks.specs.Steps.{with_wait, with_looked, with_read, with_drop_kept, with_lingering, IsLookedThrough, ToldOfKill}
 use Rattle.marks.proofs.Anchors.{no_frame, each_cons, has_element}
 use Rattle.marks.proofs.Dropped.{first_or_rest, falling_each}
 
@@ -100,7 +100,7 @@ read_kept u process p k t s over own = record {
 
 module _ (u : Under) (process : ℕ) (p : ProcessView) (k : WriterKept) (w : EndedWait) (s : IsKnown u process p k) (through : IsLookedThrough k w process) where
   -- a slot that was looked through does not name the area
-  pub looked_clear : Names w.kind p.slot.anchors w.serial → ⊥
+  pub looked_clear : MarkNames w.kind p.slot.anchors w.serial → ⊥
   looked_clear n =
       let look = through n.place within in
       both_ways (names_in w.kind n.word w.serial) ((s.looked (record { wait = w; process = process; place = n.place; told = look.0 }) look.1 refl).clear n.word n.at) n.passes
@@ -126,15 +126,15 @@ module _ (u : Under) (process : ℕ) (p : ProcessView) (k : WriterKept) (w : End
 dropped_now : (u : Under) (process : ℕ) (p : ProcessView) (k : WriterKept) (d : DroppedArea) → IsKnown u process p k → IsLookedThrough k d.wait process → u.generation ≤ d.generation → (ToldOfKill k d.wait process ↔ Among d.killed process) → IsDropped u.generation process d p
 dropped_now u process p k d s through newest told = record {
   slot = unnamed;
-  marks = first_or_rest (nat_le u.generation d.generation) (mark_now u.generation p) (last_up_to d.generation p.marks) (NamesNot d.wait.kind d.wait.serial) (λ _. unnamed)
+  marks = first_or_rest (nat_le u.generation d.generation) (mark_now u.generation p) (last_mark_up_to d.generation p.marks) (MarksNameNot d.wait.kind d.wait.serial) (λ _. unnamed)
       (λ beyond. absurd (let above = leb-false u.generation d.generation beyond in omega (arith, above, newest)));
   told = (λ h. told.0 (told_still u process p k d.wait s through h), λ among. tells_still u process p k d.wait s through (told.1 among));
 }
   where
-    unnamed : Names d.wait.kind p.slot.anchors d.wait.serial → ⊥
+    unnamed : MarkNames d.wait.kind p.slot.anchors d.wait.serial → ⊥
     unnamed n = looked_clear u process p k d.wait s through n
 
-pub drop_kept : (u : Under) (process : ℕ) (p : ProcessView) (k : WriterKept) (d : DroppedArea) → IsKnown u process p k → IsLookedThrough k d.wait process → u.generation ≤ d.generation → (ToldOfKill k d.wait process ↔ Among d.killed process) → IsKnown u process p (with_dropped k d)
+pub drop_kept : (u : Under) (process : ℕ) (p : ProcessView) (k : WriterKept) (d : DroppedArea) → IsKnown u process p k → IsLookedThrough k d.wait process → u.generation ≤ d.generation → (ToldOfKill k d.wait process ↔ Among d.killed process) → IsKnown u process p (with_drop_kept k d)
 drop_kept u process p k d s through newest told = record {
   wide = s.wide;
   rest = s.rest;
@@ -150,7 +150,7 @@ drop_kept u process p k d s through newest told = record {
 
 -- ---- answers that a process lingers
 
-lingers_now : (u : Under) (process : ℕ) (p : ProcessView) (k : WriterKept) (l : LingeringFrame) → IsKnown u process p k → l.process ≡ process → Among k.turns (record { wait = l.wait; process = l.process; turns = l.turns }) → HasAnchor names_frame p.slot.anchors l.wait.serial → u.generation ≤ l.wait.generation → Lingers l p.marks
+lingers_now : (u : Under) (process : ℕ) (p : ProcessView) (k : WriterKept) (l : LingeringFrame) → IsKnown u process p k → l.process ≡ process → Among k.turns (record { wait = l.wait; process = l.process; turns = l.turns }) → HasAnchor names_frame p.slot.anchors l.wait.serial → u.generation ≤ l.wait.generation → LingersByMarks l p.marks
 lingers_now u process p k l s own among n newest = record {
   some = stays.some;
   place = length p.marks - l.turns;
@@ -181,7 +181,7 @@ answer_kept u process p k l s found = record {
   looked = s.looked;
   read = s.read;
   dropped = s.dropped;
-  lingering = each_cons (λ (x : LingeringFrame). x.process ≡ process → Lingers x p.marks) k.lingering l (λ own. let f = found own in lingers_now u process p k l s own f.0 f.1 f.2) s.lingering;
+  lingering = each_cons (λ (x : LingeringFrame). x.process ≡ process → LingersByMarks x p.marks) k.lingering l (λ own. let f = found own in lingers_now u process p k l s own f.0 f.1 f.2) s.lingering;
   noted = s.noted;
 }
 
@@ -205,7 +205,7 @@ module _ (k : WriterKept) (b : IsBacked k) where
   pub read_backed : (t : ReadTurn) → Among k.waits t.wait → IsBacked (with_read k t)
   read_backed t over = record { anchors = b.anchors; turns = each_cons (λ (x : ReadTurn). Among k.waits x.wait) k.turns t over b.turns; dropped = b.dropped; lingering = b.lingering }
 
-  pub drop_backed : (d : DroppedArea) → Among k.waits d.wait → IsBacked (with_dropped k d)
+  pub drop_backed : (d : DroppedArea) → Among k.waits d.wait → IsBacked (with_drop_kept k d)
   drop_backed d over = record { anchors = b.anchors; turns = b.turns; dropped = each_cons (λ (x : DroppedArea). Among k.waits x.wait) k.dropped d over b.dropped; lingering = b.lingering }
 
   pub answer_backed : (l : LingeringFrame) → Among k.waits l.wait → IsBacked (with_lingering k l)

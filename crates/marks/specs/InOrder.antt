@@ -10,7 +10,7 @@ use Rattle.marks.specs.declared.kept.WriterKept.{WriterKept}
 use Rattle.marks.specs.declared.mark.Mark.{Mark}
 use Rattle.marks.specs.declared.mark.ProcessView.{ProcessView}
 use Rattle.marks.specs.Names.{HasAnchor, IsAtRest}
-use Rattle.marks.specs.Kept.{Under, NamesNot, mark_now, IsKnown}
+use Rattle.marks.specs.Kept.{Under, MarksNameNot, mark_now, IsKnown}
 
 -- the last of these turns that is under no later generation than this one, if there is one
 abbrev pub last_turn_up_to : ℕ → List Mark → Option Mark
@@ -34,13 +34,13 @@ pub record LingersAfter (serial published turn : ℕ) (turns : List Mark) : Type
 abbrev pub DropsAreTrue : Type 0
 DropsAreTrue =
     (u : Under) (process : ℕ) (p : ProcessView) (k : WriterKept) (d : DroppedArea) → IsKnown u process p k → IsAtRest p → Among k.dropped d
-    → IfSome (last_turn_up_to d.generation (reverse p.marks)) (NamesNot d.wait.kind d.wait.serial)
+    → IfSome (last_turn_up_to d.generation (reverse p.marks)) (MarksNameNot d.wait.kind d.wait.serial)
 
 -- and at any time where the turn under way counts as one more
 abbrev pub DropsStayTrue : Type 0
 DropsStayTrue =
     (u : Under) (process : ℕ) (p : ProcessView) (k : WriterKept) (d : DroppedArea) → IsKnown u process p k → Among k.dropped d
-    → IfSome (last_turn_up_to d.generation (reverse (mark_now u.generation p ∷ p.marks))) (NamesNot d.wait.kind d.wait.serial)
+    → IfSome (last_turn_up_to d.generation (reverse (mark_now u.generation p ∷ p.marks))) (MarksNameNot d.wait.kind d.wait.serial)
 
 -- a process that the writer answered to linger did so
 abbrev pub AnswersAreTrue : Type 0

@@ -19,7 +19,7 @@ use Rattle.marks.specs.declared.kept.LingeringFrame.{LingeringFrame}
 use Rattle.marks.specs.declared.kept.WriterKept.{WriterKept}
 use Rattle.marks.specs.declared.mark.Mark.{Mark}
 use Rattle.marks.specs.declared.mark.ProcessView.{ProcessView}
-use Rattle.marks.specs.Names.{names_in, tells_kill, HasAnchor, Names, last_names, IsAtRest}
+use Rattle.marks.specs.Names.{names_in, tells_kill, HasAnchor, MarkNames, last_names, IsAtRest}
 
 -- ---- the member
 
@@ -46,19 +46,19 @@ AreFalling generation (m ∷ marks) = (m.generation ≤ generation) × AreFallin
 -- the turn word is the number of marks; it may be less where the last mark names nothing
 abbrev pub CountsMarks : ProcessView → Type 0
 CountsMarks p =
-    (p.slot.turns ≡ length p.marks) ⊎ ((p.slot.turns ≤ length p.marks) × ((kind : LookKind) (serial : ℕ) → Names kind (last_names p.marks) serial → ⊥))
+    (p.slot.turns ≡ length p.marks) ⊎ ((p.slot.turns ≤ length p.marks) × ((kind : LookKind) (serial : ℕ) → MarkNames kind (last_names p.marks) serial → ⊥))
 
 -- the mark that a turn under way counts as
 abbrev pub mark_now : ℕ → ProcessView → Mark
 mark_now generation p = record { generation = generation; anchors = p.slot.anchors }
 
 -- the newest of the marks that are under no later generation
-abbrev pub last_up_to : ℕ → List Mark → Option Mark
-last_up_to generation marks = find (λ m. nat_le m.generation generation) marks
+abbrev pub last_mark_up_to : ℕ → List Mark → Option Mark
+last_mark_up_to generation marks = find (λ m. nat_le m.generation generation) marks
 
 -- a mark does not name the area
-abbrev pub NamesNot : LookKind → ℕ → Mark → Type 0
-NamesNot kind serial m = Names kind m.anchors serial → ⊥
+abbrev pub MarksNameNot : LookKind → ℕ → Mark → Type 0
+MarksNameNot kind serial m = MarkNames kind m.anchors serial → ⊥
 
 -- ---- what the writer keeps
 
@@ -80,13 +80,13 @@ IsAsRead t p = HasAnchor names_frame p.slot.anchors t.wait.serial → StaysIn t.
 
 -- neither the slot nor the newest mark up to the drop names the area, and the slot tells of a kill exactly where the drop has it
 pub record IsDropped (generation process : ℕ) (d : DroppedArea) (p : ProcessView) : Type 0 where
-  pub slot : Names d.wait.kind p.slot.anchors d.wait.serial → ⊥
-  pub marks : IfSome (last_up_to d.generation (mark_now generation p ∷ p.marks)) (NamesNot d.wait.kind d.wait.serial)
+  pub slot : MarkNames d.wait.kind p.slot.anchors d.wait.serial → ⊥
+  pub marks : IfSome (last_mark_up_to d.generation (mark_now generation p ∷ p.marks)) (MarksNameNot d.wait.kind d.wait.serial)
   pub told : HasAnchor tells_kill p.slot.anchors d.wait.serial ↔ Among d.killed process
 
 -- after this turn, counted from 1 and under no later generation than the newest then, a frame was in the instance; later
 -- turns are under no older one
-pub record Lingers (l : LingeringFrame) (marks : List Mark) : Type 0 where
+pub record LingersByMarks (l : LingeringFrame) (marks : List Mark) : Type 0 where
   pub some : 0 < l.turns
   pub place : ℕ
   pub mark : Mark
@@ -100,7 +100,7 @@ pub record Lingers (l : LingeringFrame) (marks : List Mark) : Type 0 where
 
 -- without a note the process has neither marks nor names; with one, marks are under no generation before it, nor is a turn under way
 abbrev pub IsNoted : Option ℕ → Under → ProcessView → Type 0
-IsNoted None u p = (p.marks ≡ []) × ((kind : LookKind) (serial : ℕ) → Names kind p.slot.anchors serial → ⊥)
+IsNoted None u p = (p.marks ≡ []) × ((kind : LookKind) (serial : ℕ) → MarkNames kind p.slot.anchors serial → ⊥)
 IsNoted (Some n) u p = ((i : ℕ) (m : Mark) → slice_get p.marks i ≡ Some m → n ≤ m.generation) × (IsAtRest p ⊎ (n ≤ u.generation))
 
 -- ---- one process
@@ -124,7 +124,7 @@ pub record IsKnown (u : Under) (process : ℕ) (p : ProcessView) (k : WriterKept
   -- drops exclude
   pub dropped : (d : DroppedArea) → Among k.dropped d → IsDropped u.generation process d p
   -- answers that it lingers hold
-  pub lingering : (l : LingeringFrame) → Among k.lingering l → l.process ≡ process → Lingers l p.marks
+  pub lingering : (l : LingeringFrame) → Among k.lingering l → l.process ≡ process → LingersByMarks l p.marks
   -- its note was there first
   pub noted : IsNoted p.note u p
 

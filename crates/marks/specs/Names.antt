@@ -24,8 +24,8 @@ pub record HasAnchor (test : ℕ → ℕ → Bool) (anchors : List ℕ) (serial 
   pub passes : test word serial ≡ true
 
 -- the anchors name the area in the kind
-abbrev pub Names : LookKind → List ℕ → ℕ → Type 0
-Names kind anchors serial = HasAnchor (names_in kind) anchors serial
+abbrev pub MarkNames : LookKind → List ℕ → ℕ → Type 0
+MarkNames kind anchors serial = HasAnchor (names_in kind) anchors serial
 
 -- what was named at the end of the last turn; nothing before the first
 abbrev pub last_names : List Mark → List ℕ

@@ -17,7 +17,7 @@ use Rattle.marks.specs.declared.kept.DroppedArea.{DroppedArea}
 use Rattle.marks.specs.declared.kept.LingeringFrame.{LingeringFrame}
 use Rattle.marks.specs.declared.kept.WriterKept.{WriterKept}
 use Rattle.marks.specs.declared.mark.ProcessView.{ProcessView}
-use Rattle.marks.specs.Names.{names_in, tells_kill, HasAnchor, Names, IsAtRest}
+use Rattle.marks.specs.Names.{names_in, tells_kill, HasAnchor, MarkNames, IsAtRest}
 use Rattle.marks.specs.Kept.{Under, comes_to, mark_now, IsKnown, IsBacked, IsOverFor, AreOverFor}
 
 -- ---- what steps make
@@ -55,8 +55,8 @@ abbrev pub with_read : WriterKept → ReadTurn → WriterKept
 with_read k t = record k { turns = t ∷ k.turns }
 
 -- one more area that was released or purged is kept
-abbrev pub with_dropped : WriterKept → DroppedArea → WriterKept
-with_dropped k d = record k { dropped = d ∷ k.dropped }
+abbrev pub with_drop_kept : WriterKept → DroppedArea → WriterKept
+with_drop_kept k d = record k { dropped = d ∷ k.dropped }
 
 -- one more answer that a process lingers is kept
 abbrev pub with_lingering : WriterKept → LingeringFrame → WriterKept
@@ -82,7 +82,7 @@ holding awake generation p = record { awake = awake; generation = generation; fr
 
 -- the next turn word: one more than there are marks, or less where the slot names nothing
 abbrev pub IsNextTurn : ProcessView → ℕ → Type 0
-IsNextTurn p turns = (turns ≡ length p.marks + 1) ⊎ ((turns ≤ length p.marks + 1) × ((kind : LookKind) (serial : ℕ) → Names kind p.slot.anchors serial → ⊥))
+IsNextTurn p turns = (turns ≡ length p.marks + 1) ⊎ ((turns ≤ length p.marks + 1) × ((kind : LookKind) (serial : ℕ) → MarkNames kind p.slot.anchors serial → ⊥))
 
 -- each anchor of the process was looked at after the wait
 abbrev pub IsLookedThrough : WriterKept → EndedWait → ℕ → Type 0
@@ -132,7 +132,7 @@ KeepsReads =
 abbrev pub KeepsDrops : Type 0
 KeepsDrops =
     (u : Under) (process : ℕ) (p : ProcessView) (k : WriterKept) (d : DroppedArea) → IsKnown u process p k → IsLookedThrough k d.wait process
-    → u.generation ≤ d.generation → (ToldOfKill k d.wait process ↔ Among d.killed process) → IsKnown u process p (with_dropped k d)
+    → u.generation ≤ d.generation → (ToldOfKill k d.wait process ↔ Among d.killed process) → IsKnown u process p (with_drop_kept k d)
 
 -- the writer answers that a process lingers: it read its turn word, and then an anchor that names the instance, while no member is under
 -- a later generation than that of the wait
@@ -147,7 +147,7 @@ KeepsAnswers =
 abbrev pub EndsNames : Type 0
 EndsNames =
     (u : Under) (process : ℕ) (p : ProcessView) (k : WriterKept) (w : EndedWait) → IsKnown u process p k → IsLookedThrough k w process
-    → Names w.kind p.slot.anchors w.serial → ⊥
+    → MarkNames w.kind p.slot.anchors w.serial → ⊥
 
 -- the note of a process comes
 abbrev pub KeepsNotes : Type 0
@@ -160,7 +160,7 @@ KeepsBacked =
     → ((w : EndedWait) → IsBacked (with_wait k w))
     × ((l : LookedAnchor) → Among k.waits l.wait → IsBacked (with_looked k l))
     × ((t : ReadTurn) → Among k.waits t.wait → IsBacked (with_read k t))
-    × ((d : DroppedArea) → Among k.waits d.wait → IsBacked (with_dropped k d))
+    × ((d : DroppedArea) → Among k.waits d.wait → IsBacked (with_drop_kept k d))
     × ((l : LingeringFrame) → Among k.waits l.wait → IsBacked (with_lingering k l))
 
 -- a process without a note is known at first, while the writer keeps nothing

@@ -5,7 +5,7 @@ use Rattle.std.proofs.lemmas.Bool.Decides.{nat_tests}
 use Rattle.term_core.proofs.Places.{position-cons, position-append_one, position-append_found}
 use Rattle.mod_core.specs.declared.code.Module.{Module}
 use Rattle.mod_core.specs.declared.module_list.ModuleKey.{ModuleKey}
-use Rattle.mod_core.specs.ModulePlaces.{TellsPlaces, is_named, is_same_key}
+use Rattle.mod_core.specs.ModulePlaces.{TellsPlaces, is_of_key, is_same_key}
 
 -- the first element that passes stands at the first place
 pub find_in : {X : Type 0} (p : X → Bool) (xs : List X) → find p xs ≡ option_and_then (slice_get xs) (position p xs)
@@ -36,29 +36,29 @@ same_key a b h =
 
 -- where a module has the name and version of one of the list, the index stays
 pub places_kept : (es : List (ModuleKey × ℕ)) (ms : List Module) (m : Module) → TellsPlaces es ms → is_some (lookup (is_same_key (key_of m)) es) ≡ true → TellsPlaces es (ms ++ m ∷ [])
-places_kept es ms m has held key = by (is_named key m) refl
+places_kept es ms m has held key = by (is_of_key key m) refl
   where
-    found : (o : Option ℕ) → lookup (is_same_key (key_of m)) es ≡ o → is_some o ≡ true → key_of m ≡ key → lookup (is_same_key key) es ≡ position (is_named key) (ms ++ m ∷ [])
+    found : (o : Option ℕ) → lookup (is_same_key (key_of m)) es ≡ o → is_some o ≡ true → key_of m ≡ key → lookup (is_same_key key) es ≡ position (is_of_key key) (ms ++ m ∷ [])
     found None at some same = cc
     found (Some n) at some same =
         let here : lookup (is_same_key key) es ≡ Some n = ap (λ k. lookup (is_same_key k) es) (sym same) ∙ at in
-        here ∙ sym (position-append_found (is_named key) ms (m ∷ []) n (sym (has key) ∙ here))
+        here ∙ sym (position-append_found (is_of_key key) ms (m ∷ []) n (sym (has key) ∙ here))
 
-    by : (b : Bool) → is_named key m ≡ b → lookup (is_same_key key) es ≡ position (is_named key) (ms ++ m ∷ [])
+    by : (b : Bool) → is_of_key key m ≡ b → lookup (is_same_key key) es ≡ position (is_of_key key) (ms ++ m ∷ [])
     by true e = found (lookup (is_same_key (key_of m)) es) refl held (same_key (key_of m) key e)
-    by false e = has key ∙ sym (position-append_other (is_named key) ms m e)
+    by false e = has key ∙ sym (position-append_other (is_of_key key) ms m e)
 
 -- where no module of the list has its name and version, the index has its place too
 pub places_with : (es after : List (ModuleKey × ℕ)) (ms : List Module) (m : Module) → TellsPlaces es ms → is_some (lookup (is_same_key (key_of m)) es) ≡ false
     → ((key : ModuleKey) → lookup (is_same_key key) after ≡ cond (is_same_key (key_of m) key) (Some (length ms)) (lookup (is_same_key key) es)) → TellsPlaces after (ms ++ m ∷ [])
-places_with es after ms m has new updates key = updates key ∙ by (is_named key m) refl
+places_with es after ms m has new updates key = updates key ∙ by (is_of_key key m) refl
   where
     none : (o : Option ℕ) → lookup (is_same_key (key_of m)) es ≡ o → is_some o ≡ false → lookup (is_same_key (key_of m)) es ≡ None
     none None at is = at
     none (Some n) at is = cc
 
-    by : (b : Bool) → is_named key m ≡ b → cond b (Some (length ms)) (lookup (is_same_key key) es) ≡ position (is_named key) (ms ++ m ∷ [])
+    by : (b : Bool) → is_of_key key m ≡ b → cond b (Some (length ms)) (lookup (is_same_key key) es) ≡ position (is_of_key key) (ms ++ m ∷ [])
     by true e =
         let here : lookup (is_same_key key) es ≡ None = ap (λ k. lookup (is_same_key k) es) (sym (same_key (key_of m) key e)) ∙ none (lookup (is_same_key (key_of m)) es) refl new in
-        sym (position-append_one (is_named key) ms m (sym (has key) ∙ here) e)
-    by false e = has key ∙ sym (position-append_other (is_named key) ms m e)
+        sym (position-append_one (is_of_key key) ms m (sym (has key) ∙ here) e)
+    by false e = has key ∙ sym (position-append_other (is_of_key key) ms m e)

@@ -15,7 +15,7 @@ use Rattle.mod_core.specs.declared.code.Instr.TheVariants.{Move, Add, Sub, Eq, L
 use Rattle.mod_core.specs.declared.code.Function.{Function}
 use Rattle.mod_core.specs.Module.{IsCallPlace, IsFunctionName, IsInstr, IsOperand}
 use Rattle.mod_core.specs.ModuleImage.{constants_len, instr_constants, instr_words, name_word, operand_constants, operand_word}
-use Rattle.mod_core.specs.Decoding.{AreOperandsAt, IsWordOf, atom_from, has_first, has_second, instr_from, instr_of, name_from, number_from}
+use Rattle.mod_core.specs.Decoding.{AreOperandsAt, IsWordOf, atom_from, has_first, has_second, instr_decoded, instr_read_of, name_from, number_from}
 use Rattle.mod_core.proofs.Constants.{ConstantsStand, stand_behind, stand_front}
 use Rattle.mod_core.proofs.Places.{StandsAt}
 
@@ -40,10 +40,10 @@ pub record HasOperands (words : List ℕ) (at : ℕ) (i : Instr) : Type 0 where
   pub a : Operand
   pub b : Operand
   pub are : AreOperandsAt words at a b
-  pub is : instr_from words at a b ≡ i
+  pub is : instr_decoded words at a b ≡ i
 
 with_operands : (words : List ℕ) (at number : ℕ) (a b : Operand) (i : Instr) → slice_index words at ≡ number → 0 < number → number < 15 → (IsTrue (has_first number) → IsWordOf words (slice_index words (at + 1)) a) → (IsTrue (has_second number) → IsWordOf words (slice_index words (at + 2)) b) →
-    instr_of number a b (slice_index words (at + 1)) (slice_index words (at + 2)) (slice_index words (at + 3)) ≡ i → HasOperands words at i
+    instr_read_of number a b (slice_index words (at + 1)) (slice_index words (at + 2)) (slice_index words (at + 3)) ≡ i → HasOperands words at i
 with_operands words at number a b i told some known first second is = record {
   a = a;
   b = b;
@@ -53,7 +53,7 @@ with_operands words at number a b i told some known first second is = record {
     first = λ h. first (subst (λ n. IsTrue (has_first n)) told h);
     second = λ h. second (subst (λ n. IsTrue (has_second n)) told h);
   };
-  is = ap (λ n. instr_of n a b (slice_index words (at + 1)) (slice_index words (at + 2)) (slice_index words (at + 3))) told ∙ is;
+  is = ap (λ n. instr_read_of n a b (slice_index words (at + 1)) (slice_index words (at + 2)) (slice_index words (at + 3))) told ∙ is;
 }
 
 register_back : (word register : ℕ) → word ≡ register * 16 + 6 → register < 16 → number_from (word / 16) ≡ register

@@ -16,7 +16,7 @@ use Rattle.mod_core.specs.declared.code.Function.{Function}
 use Rattle.mod_core.specs.declared.code.Module.{Module}
 use Rattle.mod_core.specs.Module.{IsModule}
 use Rattle.mod_core.specs.ModuleImage.{IsImageOfModule, code_constants, code_len, constants_len, constants_of, function_place, module_image, place_in, placed, placed_code, return_ok}
-use Rattle.mod_core.specs.Decoding.{IsFunctionIn, IsWordOf, atom_from, has_first, has_second, instr_of, number_at, number_from}
+use Rattle.mod_core.specs.Decoding.{IsFunctionIn, IsWordOf, atom_from, has_first, has_second, instr_read_of, number_at, number_from}
 use Rattle.mod_core.proofs.Heads.{first_function, function_told, module_told, next_is}
 use Rattle.mod_core.proofs.Marks.{same_image}
 use Rattle.mod_core.proofs.Lengths.{placed_code_constants, placed_code_len}
@@ -73,7 +73,7 @@ module _ (n first second third : ℕ) (a b c d : Operand) (same_first : IsTrue (
   second_at k has e = same_second (subst (λ j. IsTrue (has_second j)) (sym (eqb-true n k e)) has)
 
   -- what an instruction has no operand for does not matter
-  pub same_instr : instr_of n a b first second third ≡ instr_of n c d first second third
+  pub same_instr : instr_read_of n a b first second third ≡ instr_read_of n c d first second third
   same_instr =
       either (nat_eq n 1) _ _ _ _ (λ e. ap (λ o. Move o (number_from (second / 16))) (first_at 1 refl e)) (λ _.
       either (nat_eq n 2) _ _ _ _ (λ e. λ t. Add (first_at 2 refl e t) (second_at 2 refl e t) (number_from (third / 16))) (λ _.

@@ -20,9 +20,9 @@ use Rattle.mod_core.specs.Module.{IsConstant, IsModule}
 use Rattle.mod_core.specs.ModuleImage.{code_constants, constants_len, constants_of, function_place, module_image, place_in, placed_code, register_word}
 
 -- the call succeeded with this, or memory was refused
-abbrev pub Reads : {T : Type 0} → Result T ImageFault → Type 0 → Type 0
-Reads (Ok x) P = P
-Reads (Err e) P = e ≡ NoMemory
+abbrev pub ReadsWords : {T : Type 0} → Result T ImageFault → Type 0 → Type 0
+ReadsWords (Ok x) P = P
+ReadsWords (Err e) P = e ≡ NoMemory
 
 -- the call gave a value of which this holds, or memory was refused
 abbrev pub ReadsTo : {T : Type 0} → Result T ImageFault → (T → Type 0) → Type 0
@@ -81,8 +81,8 @@ abbrev pub has_both : ℕ → Bool
 has_both number = has_first number && has_second number
 
 -- the instruction with this number, these operands and these further words
-abbrev pub instr_of : ℕ → Operand → Operand → ℕ → ℕ → ℕ → Instr
-instr_of number a b first second third =
+abbrev pub instr_read_of : ℕ → Operand → Operand → ℕ → ℕ → ℕ → Instr
+instr_read_of number a b first second third =
     if number == 1 then Move a (number_from (second / 16))
     else if number == 2 then Add a b (number_from (third / 16))
     else if number == 3 then Sub a b (number_from (third / 16))
@@ -99,8 +99,8 @@ instr_of number a b first second third =
     else Yield
 
 -- the instruction at a place, with these operands
-abbrev pub instr_from : List ℕ → ℕ → Operand → Operand → Instr
-instr_from words at a b = instr_of (slice_index words at) a b (slice_index words (at + 1)) (slice_index words (at + 2)) (slice_index words (at + 3))
+abbrev pub instr_decoded : List ℕ → ℕ → Operand → Operand → Instr
+instr_decoded words at a b = instr_read_of (slice_index words at) a b (slice_index words (at + 1)) (slice_index words (at + 2)) (slice_index words (at + 3))
 
 -- an instruction begins at a place, and these are its operands, if it has them
 pub record AreOperandsAt (words : List ℕ) (at : ℕ) (a b : Operand) : Type 0 where

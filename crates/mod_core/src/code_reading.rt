@@ -6,7 +6,7 @@ ghost use Rattle.mod_core.specs.ModuleImage.{constants_len, instr_constants, pla
 ghost use Rattle.mod_core.specs.declared.code.TheConstants.{LONGEST_IMAGE, MOST_FUNCTIONS};
 ghost use Rattle.mod_core.specs.declared.code.Function.{Function};
 ghost use Rattle.mod_core.specs.declared.code.Module.{Module};
-ghost use Rattle.mod_core.specs.Decoding.{code_end, IsFunctionIn, IsLeft, IsRow, IsWholeRow, Reads, ReadsTo, number_at};
+ghost use Rattle.mod_core.specs.Decoding.{code_end, IsFunctionIn, IsLeft, IsRow, IsWholeRow, ReadsWords, ReadsTo, number_at};
 
 use crate::code::{Instr, InstrList};
 use crate::image::instr_len;
@@ -46,7 +46,7 @@ fn read_next(alloc: Global, words: &[u64], row: &mut Row) -> Result<(), ImageFau
     requires short { length words.now ≤ LONGEST_IMAGE }
     requires within { row.old.place < length words.now }
     ensures goes_on { OnOk result (row.old.place < row.new.place) }
-    ensures reads { (m : Module) (number : ℕ) (f : Function) → IsFunctionIn words.now m number f → (r : IsRow m number f row.old) → r.count < length f.code → Reads result (IsRow m number f row.new) }
+    ensures reads { (m : Module) (number : ℕ) (f : Function) → IsFunctionIn words.now m number f → (r : IsRow m number f row.old) → r.count < length f.code → ReadsWords result (IsRow m number f row.new) }
 {
     let instr = read_instr(alloc, words, row.place)?;
     row.left = left_without(row.left, &instr)?;

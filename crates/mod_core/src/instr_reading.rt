@@ -7,7 +7,7 @@ ghost use Rattle.term_core.specs.Plain.{term_of};
 ghost use Rattle.term_core.specs.PlainTerm.{PlainTerm};
 ghost use Rattle.mod_core.specs.declared.code.TheConstants.{LONGEST_IMAGE};
 ghost use Rattle.mod_core.specs.declared.code.Operand.{Operand};
-ghost use Rattle.mod_core.specs.Decoding.{AreOperandsAt, IsWordOf, has_both, has_operand, instr_from};
+ghost use Rattle.mod_core.specs.Decoding.{AreOperandsAt, IsWordOf, has_both, has_operand, instr_decoded};
 
 use crate::code::{Instr, LONGEST_IMAGE, Operand};
 use crate::layout::{
@@ -47,7 +47,7 @@ fn read_operand(alloc: Global, words: &[u64], word: u64) -> Result<Operand, Imag
 pub(crate) fn read_instr(alloc: Global, words: &[u64], at: usize) -> Result<Instr, ImageFault>
     requires short { length words.now ≤ LONGEST_IMAGE }
     requires within { at ≤ length words.now }
-    ensures { (a b : Operand) → AreOperandsAt words.now at a b → GivesUnless ImageFault.NoMemory result (instr_from words.now at a b) }
+    ensures { (a b : Operand) → AreOperandsAt words.now at a b → GivesUnless ImageFault.NoMemory result (instr_decoded words.now at a b) }
 {
     let first = word_at(words, at + 1);
     let second = word_at(words, at + 2);
@@ -76,7 +76,7 @@ pub(crate) fn read_instr(alloc: Global, words: &[u64], at: usize) -> Result<Inst
 fn read_single(alloc: Global, words: &[u64], at: usize) -> Result<Instr, ImageFault>
     requires short { length words.now ≤ LONGEST_IMAGE }
     requires within { at ≤ length words.now }
-    ensures { (a b : Operand) → AreOperandsAt words.now at a b → IsTrue (has_operand (slice_index words.now at)) → GivesUnless ImageFault.NoMemory result (instr_from words.now at a b) }
+    ensures { (a b : Operand) → AreOperandsAt words.now at a b → IsTrue (has_operand (slice_index words.now at)) → GivesUnless ImageFault.NoMemory result (instr_decoded words.now at a b) }
 {
     let first = word_at(words, at + 1);
     let second = word_at(words, at + 2);
@@ -104,7 +104,7 @@ fn read_single(alloc: Global, words: &[u64], at: usize) -> Result<Instr, ImageFa
 fn read_double(alloc: Global, words: &[u64], at: usize) -> Result<Instr, ImageFault>
     requires short { length words.now ≤ LONGEST_IMAGE }
     requires within { at ≤ length words.now }
-    ensures { (a b : Operand) → AreOperandsAt words.now at a b → IsTrue (has_both (slice_index words.now at)) → GivesUnless ImageFault.NoMemory result (instr_from words.now at a b) }
+    ensures { (a b : Operand) → AreOperandsAt words.now at a b → IsTrue (has_both (slice_index words.now at)) → GivesUnless ImageFault.NoMemory result (instr_decoded words.now at a b) }
 {
     let a = read_operand(alloc, words, word_at(words, at + 1))?;
     let b = read_operand(alloc, words, word_at(words, at + 2))?;

@@ -50,6 +50,7 @@ impl ModuleList {
         }
     }
 
+    /// The modules, in the order in which they came.
     pub fn as_slice(&self) -> &[Module]
         ensures { result.now ≡ self.now }
     {

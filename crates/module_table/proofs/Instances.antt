@@ -5,7 +5,7 @@ use Rattle.std.specs.Map.{lookup}
 use Rattle.std.specs.Result.{IsOk}
 use Rattle.indexmap.specs.IndexMap.{insert_entry}
 use Rattle.module_table.specs.declared.table.Serials.{Serials}
-use Rattle.module_table.specs.Modules.{Instances, current_in, has_instance, old_in, with_instances}
+use Rattle.module_table.specs.Modules.{ModuleInstances, current_in, has_instance, old_in, with_instances}
 use Rattle.module_table.specs.ModuleTable.{instances_of}
 
 -- the current instance of a module is what the map has at its atom
@@ -35,12 +35,12 @@ insert_instances [] name s = refl
 insert_instances (e ∷ es) name s = entry_named e es name s (nat_eq name e.0) refl (insert_instances es name s)
 
 -- the modules that a map shows once one has these serials
-pub put_instances : (es after : List (ℕ × Serials)) (ms : List Instances) (name : ℕ) (s : Serials) (new : Instances) → map instances_of es ≡ ms → instances_of (name, s) ≡ new → after ≡ insert_entry nat_eq es name s
+pub put_instances : (es after : List (ℕ × Serials)) (ms : List ModuleInstances) (name : ℕ) (s : Serials) (new : ModuleInstances) → map instances_of es ≡ ms → instances_of (name, s) ≡ new → after ≡ insert_entry nat_eq es name s
     → map instances_of after ≡ with_instances ms new
 put_instances es after ms name s new seen is put = ap (map instances_of) put ∙ insert_instances es name s ∙ (λ i. with_instances (seen i) (is i))
 
 -- a module that has an instance is in the map
-pub module_in_map : {E : Type 0} (r : Result (Option Serials) E) (es : List (ℕ × Serials)) (ms : List Instances) (name : ℕ) → map instances_of es ≡ ms → OnErr r (lookup (nat_eq name) es ≡ None) → has_instance ms name ≡ true → IsOk r
+pub module_in_map : {E : Type 0} (r : Result (Option Serials) E) (es : List (ℕ × Serials)) (ms : List ModuleInstances) (name : ℕ) → map instances_of es ≡ ms → OnErr r (lookup (nat_eq name) es ≡ None) → has_instance ms name ≡ true → IsOk r
 module_in_map (Ok x) es ms name seen absent some = refl
 module_in_map (Err e) es ms name seen absent some =
     let current : is_some (current_in ms name) ≡ false = ap (λ all. is_some (current_in all name)) (sym seen) ∙ ap is_some (current_lookup es name) ∙ ap (λ o. is_some (option_and_then (λ s. s.current) o)) absent in
@@ -49,7 +49,7 @@ module_in_map (Err e) es ms name seen absent some =
     absurd (cc)
 
 -- what is looked up after a module's instances were replaced
-pub current_set : (ms : List Instances) (new : Instances) (k : ℕ) → current_in (with_instances ms new) k ≡ cond (nat_eq k new.name) new.current (current_in ms k)
+pub current_set : (ms : List ModuleInstances) (new : ModuleInstances) (k : ℕ) → current_in (with_instances ms new) k ≡ cond (nat_eq k new.name) new.current (current_in ms k)
 current_set [] new k = refl
 current_set (m ∷ ms) new k = by (nat_eq new.name m.name) refl (current_set ms new k)
   where
@@ -58,7 +58,7 @@ current_set (m ∷ ms) new k = by (nat_eq new.name m.name) refl (current_set ms 
     by true e ih = grind (arith, nat_tests)
     by false e ih = grind (arith, nat_tests)
 
-pub old_set : (ms : List Instances) (new : Instances) (k : ℕ) → old_in (with_instances ms new) k ≡ cond (nat_eq k new.name) new.old (old_in ms k)
+pub old_set : (ms : List ModuleInstances) (new : ModuleInstances) (k : ℕ) → old_in (with_instances ms new) k ≡ cond (nat_eq k new.name) new.old (old_in ms k)
 old_set [] new k = refl
 old_set (m ∷ ms) new k = by (nat_eq new.name m.name) refl (old_set ms new k)
   where

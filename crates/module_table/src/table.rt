@@ -1,5 +1,5 @@
 ghost use Rattle.std.specs.Prelude.{◌≡◌, ◌≢◌, ◌↔◌, ◌+◌, ◌<◌, ◌≤◌, ℕ, [], IfOk, IsErrOf, IsOk, IsSome, IsTrue, None, OnErr, OnOk, Some};
-ghost use Rattle.module_table.specs.Modules.{current_in, drop_answer, has_instance, old_in, with_dropped, with_instances, with_promoted, without_old};
+ghost use Rattle.module_table.specs.Modules.{current_in, drop_answer, has_instance, old_in, without_current, with_instances, with_promoted, without_old};
 
 use crate::fault::{DropAnswer, PromoteFault};
 use indexmap::IndexMap;
@@ -89,7 +89,7 @@ impl ModuleTable {
     /// What is current becomes old, and none is current. Where it is not dropped, the table is as before.
     pub fn drop_current(&mut self, module: AtomId) -> DropAnswer
         ensures answer { result ≡ drop_answer (current_in self.old.instances «module».0) (old_in self.old.instances «module».0) }
-        ensures dropped { result ≡ DropAnswer.Dropped → self.new.instances ≡ with_dropped self.old.instances «module».0 }
+        ensures dropped { result ≡ DropAnswer.Dropped → self.new.instances ≡ without_current self.old.instances «module».0 }
         ensures kept { result ≢ DropAnswer.Dropped → self.new.instances ≡ self.old.instances }
     {
         if let Some(old) = self.old(module) {

@@ -5,7 +5,7 @@ use Rattle.std.proofs.lemmas.Bool.{and_parts, eqb-true, true≢false}
 use Rattle.prgr_core.proofs.Parts.{some_same}
 use Rattle.term_core.specs.declared.atom.Mfa.{Mfa}
 use Rattle.area_core.specs.declared.map.TheConstants.{ANCHORS}
-use Rattle.area_core.specs.Generations.{names}
+use Rattle.area_core.specs.Generations.{anchor_names_area}
 use Rattle.area_core.specs.Readers.{held_by_watcher}
 use Rattle.area_core.specs.Step.{opening_published}
 use Rattle.area_core.proofs.Counted.{opened}
@@ -35,7 +35,7 @@ zeros (suc n) (suc place) word at = zeros n place word at
 nothing_stored : (v : WatcherView) (process place word : ℕ) → slice_get (anchors_of (as_member v) process) place ≡ Some word → word ≡ 0
 nothing_stored v process place word at = zeros ANCHORS place word (ap (λ (xs : List ℕ). slice_get xs place) (opened ANCHORS) ∙ at)
 
-no_name : (serial : ℕ) → names 0 serial ≡ true → ⊥
+no_name : (serial : ℕ) → anchor_names_area 0 serial ≡ true → ⊥
 no_name serial e = true≢false (sym e)
 
 no_kill : (serial : ℕ) → tells_kill 0 serial ≡ true → ⊥
@@ -44,7 +44,7 @@ no_kill (suc n) e = let same : 0 ≡ suc n * 4 = eqb-true 0 (suc n * 4) (and_par
 
 names_nothing : (v : WatcherView) (serial : ℕ) → NamesArea (as_member v) serial → ⊥
 names_nothing v serial (process, anchor) =
-    no_name serial (subst (λ (n : ℕ). names n serial ≡ true) (nothing_stored v process anchor.place anchor.word anchor.at) anchor.passes)
+    no_name serial (subst (λ (n : ℕ). anchor_names_area n serial ≡ true) (nothing_stored v process anchor.place anchor.word anchor.at) anchor.passes)
 
 -- a table of one scheduler
 abbrev pub of_one : Opening

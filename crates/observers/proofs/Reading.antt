@@ -8,14 +8,14 @@ use Rattle.shared_words.specs.declared.view.View.{View}
 use Rattle.shared_words.specs.declared.view.View.TheVariants.{Watcher}
 use Rattle.shared_words.specs.declared.view.WatcherView.{WatcherView}
 use Rattle.shared_words.specs.Publishing.{with_watched_word, word_found}
-use Rattle.shared_words.specs.Seats.{IsSameSeat, IsWatcherSeat, Place, counts_held, watcher_of}
+use Rattle.shared_words.specs.Seats.{IsSameSeat, IsWatcherSeat, SeatPlace, counts_held, watcher_of}
 use Rattle.progress_words.specs.Tokens.{watched_by}
 use Rattle.word_view.specs.Loaded.{IsReadAt, IsWordThere}
 use Rattle.observers.specs.Watching.{HasRead, HoldsServed, IsReading, as_member, held_by_watching}
 
 -- ---- one load
 
-pub token_read : (table : TableId) (holds after : ℕ) (old new : Place) (word found : ℕ) → IsWatcherSeat table holds old → IsSameSeat old new → after ≡ holds → new.me.0 ≡ word_found word found old.me.0 → IsWatcherSeat table after new
+pub token_read : (table : TableId) (holds after : ℕ) (old new : SeatPlace) (word found : ℕ) → IsWatcherSeat table holds old → IsSameSeat old new → after ≡ holds → new.me.0 ≡ word_found word found old.me.0 → IsWatcherSeat table after new
 token_read table holds after old new word found h same counted view =
     let is : new.me.0 ≡ Watcher (with_watched_word word found (watcher_of old.me.0)) = view ∙ ap (word_found word found) h.view in
     record {

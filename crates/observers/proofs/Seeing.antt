@@ -15,7 +15,7 @@ use Rattle.shared_words.specs.declared.view.WatcherView.{WatcherView}
 use Rattle.shared_words.specs.Making.{IsWatcherBegun}
 use Rattle.shared_words.specs.Rule.{HasItsAreas, IsBeginning}
 use Rattle.shared_words.specs.Seats.{HoldsRoot, counts_held, generation_held, watcher_of}
-use Rattle.shared_words.specs.Views.{newest, published_at}
+use Rattle.shared_words.specs.Views.{newest_number, published_at}
 use Rattle.progress_words.specs.Delays.{HasDelayed, IsIdle, IsSameWatcher}
 use Rattle.progress_words.specs.Tokens.{IsWatcherOf, watched_by}
 use Rattle.machine_core.specs.GenerationReads.{reads_in}
@@ -51,7 +51,7 @@ module _ (names : List Mfa) (old : WatcherView) (root g : ℕ) (mid : WatcherVie
   has_seen functions last new shot kept same numbered exports =
       let seen : new.seen ≡ mid.seen = same.seen ∙ kept in
       record {
-        newest = numbered ∙ d.newest ∙ ap newest (sym seen);
+        newest = numbered ∙ d.newest ∙ ap newest_number (sym seen);
         learnt = subst (IsBeginning old.seen) (sym seen) d.learnt;
         seen = record {
           learnt = within shot.generation (length mid.seen) (length new.seen) (numbered ∙ d.newest) d.some (ap (λ (xs : List Published). length xs) seen);
@@ -82,7 +82,7 @@ module _ (names functions : List Mfa) (seen more : List Published) (home : IsBeg
     exports = h.exports ∙ ap (λ (p : Published). exports_read (reads_in names p.state) functions) (sym (beginning_at seen more shot.generation h.learnt home));
   }
 
-  module _ (shot : Snapshot) (last : shot.generation ≡ newest more) (is : IsSeenOf names functions more shot) where
+  module _ (shot : Snapshot) (last : shot.generation ≡ newest_number more) (is : IsSeenOf names functions more shot) where
     all_seen : (shots : List Snapshot) → AllByRecursion (IsSeenOf names functions seen) shots → AllByRecursion (IsSeenOf names functions more) (shots ++ shot ∷ [])
     all_seen [] each = (is, tt)
     all_seen (x ∷ shots) each = (still_seen x each.0, all_seen shots each.1)

@@ -5,7 +5,7 @@ use Rattle.atomic_table.specs.Seated.{TableId}
 use Rattle.term_core.specs.declared.atom.Mfa.{Mfa}
 use Rattle.shared_words.specs.declared.view.WatcherView.{WatcherView}
 use Rattle.shared_words.specs.Rule.{IsBeginning}
-use Rattle.shared_words.specs.Views.{newest, published_at}
+use Rattle.shared_words.specs.Views.{newest_number, published_at}
 use Rattle.progress_words.specs.Delays.{IsIdle}
 use Rattle.progress_words.specs.Tokens.{IsWatcherOf, watched_by}
 use Rattle.run_log.specs.declared.logs.Snapshot.{Snapshot}
@@ -15,7 +15,7 @@ use Rattle.observers.specs.declared.observer.Observer.{Observer}
 
 -- the snapshot is of the newest generation that the watcher has learnt of, which the code server has made; what it had learnt of before, it still has
 pub record HasSeen (names functions : List Mfa) (old new : WatcherView) (shot : Snapshot) : Type 0 where
-  pub newest : shot.generation ≡ newest new.seen
+  pub newest : shot.generation ≡ newest_number new.seen
   pub learnt : IsBeginning old.seen new.seen
   pub seen : IsSeenOf names functions new.seen shot
   pub served : IsServed names (published_at new.seen shot.generation)
@@ -30,7 +30,7 @@ pub record Observes (names functions : List Mfa) (table : TableId) (o : Observer
 -- that it is one that the code server has made only a load of the root tells, so the snapshot of an earlier look cannot be given again
 pub record TakesOne (names : List Mfa) (old new : Observer) : Type 0 where
   pub shot : Snapshot
-  pub newest : shot.generation ≡ newest (watched_by new.watcher).seen
+  pub newest : shot.generation ≡ newest_number (watched_by new.watcher).seen
   pub served : IsServed names (published_at (watched_by new.watcher).seen shot.generation)
   pub learnt : IsBeginning (watched_by old.watcher).seen (watched_by new.watcher).seen
   pub shots : new.shots ≡ old.shots ++ shot ∷ []

@@ -9,7 +9,7 @@ use Rattle.term_core.proofs.Text.Options.{some_is, bytes_are}
 use Rattle.script_core.specs.declared.script.Script.{Script}
 use Rattle.script_text.specs.ScriptLine.{ScriptLine, go, script_line_written, is_script_line}
 use Rattle.script_text.specs.ScriptText.{ScriptText}
-use Rattle.term_core.specs.Text.Parts.{lines_of, lines_joined}
+use Rattle.term_core.specs.Text.Parts.{lines_of_text, lines_joined}
 use Rattle.term_core.proofs.Text.Parts.{ended_lack}
 use Rattle.script_text.specs.declared.reading.cause.LineCause.TheVariants as causes
 use Rattle.script_text.specs.declared.reading.reader.Place.{Place}
@@ -36,13 +36,13 @@ at_other false line text rest (Some others) e whole = refl
 part_at_go : (text : List ℕ) (x : List ℕ × List ℕ) → cut_at 10 text ≡ Some x → bytes_eq x.0 (codes "go") ≡ true → script_part text ≡ x.0 ++ 10 ∷ []
 part_at_go text x cut is =
     ap (λ (w : Lines). unwrap_or (option_map lines_joined (lines_to_go w.ended)) text) (lines_of_cut text x cut)
-    ∙ at_go (bytes_eq x.0 (codes "go")) x.0 text (option_map (λ others. x.0 ∷ others) (lines_to_go (lines_of x.1).ended)) is
+    ∙ at_go (bytes_eq x.0 (codes "go")) x.0 text (option_map (λ others. x.0 ∷ others) (lines_to_go (lines_of_text x.1).ended)) is
 
 -- the script's part where it is another line
 part_behind : (text : List ℕ) (x : List ℕ × List ℕ) → cut_at 10 text ≡ Some x → bytes_eq x.0 (codes "go") ≡ false → script_part text ≡ x.0 ++ 10 ∷ script_part x.1
 part_behind text x cut is =
     ap (λ (w : Lines). unwrap_or (option_map lines_joined (lines_to_go w.ended)) text) (lines_of_cut text x cut)
-    ∙ at_other (bytes_eq x.0 (codes "go")) x.0 text x.1 (lines_to_go (lines_of x.1).ended) is (cut_is 10 text x cut).whole
+    ∙ at_other (bytes_eq x.0 (codes "go")) x.0 text x.1 (lines_to_go (lines_of_text x.1).ended) is (cut_is 10 text x cut).whole
 
 -- the script's part where no line ends
 pub part_at_end : (text : List ℕ) → cut_at 10 text ≡ None → script_part text ≡ text
@@ -66,10 +66,10 @@ joined_with b [] tail = refl
 joined_with b (line ∷ ended) tail = refl
 
 -- a text is its lines, each with its line feed, and the bytes behind them
-text_is_lines : (text : List ℕ) → lines_joined (lines_of text).ended ++ (lines_of text).tail ≡ text
+text_is_lines : (text : List ℕ) → lines_joined (lines_of_text text).ended ++ (lines_of_text text).tail ≡ text
 text_is_lines [] = refl
 text_is_lines (b ∷ bs) =
-    let w = lines_of bs in
+    let w = lines_of_text bs in
     elim (b == 10) as (λ (t : Bool). (b == 10) ≡ t → lines_joined (cond t (lines ([] ∷ w.ended) w.tail) (before_lines b w.ended w.tail)).ended ++ (cond t (lines ([] ∷ w.ended) w.tail) (before_lines b w.ended w.tail)).tail ≡ b ∷ bs) [
       | true ↦ λ is. ap (λ k. k ∷ (lines_joined w.ended ++ w.tail)) (sym (eqb-true b 10 is)) ∙ ap (λ l. b ∷ l) (text_is_lines bs)
       | false ↦ λ _. joined_with b w.ended w.tail ∙ ap (λ l. b ∷ l) (text_is_lines bs)
@@ -100,15 +100,15 @@ record Begins (part whole : List ℕ) : Type 0 where
   rest : List ℕ
   is : whole ≡ part ++ rest
 
-begins_step : (text : List ℕ) (o : Option (List (List ℕ))) → lines_to_go (lines_of text).ended ≡ o → Begins (unwrap_or (option_map lines_joined o) text) text
+begins_step : (text : List ℕ) (o : Option (List (List ℕ))) → lines_to_go (lines_of_text text).ended ≡ o → Begins (unwrap_or (option_map lines_joined o) text) text
 begins_step text None e = record { rest = []; is = sym (append-nil text) }
 begins_step text (Some found) e =
-    let front = to_go_front (lines_of text).ended found e in
+    let front = to_go_front (lines_of_text text).ended found e in
     record {
-      rest = lines_joined front.others ++ (lines_of text).tail;
+      rest = lines_joined front.others ++ (lines_of_text text).tail;
       is =
-          sym (text_is_lines text) ∙ ap (λ ls. lines_joined ls ++ (lines_of text).tail) front.is ∙ ap (λ l. l ++ (lines_of text).tail) (lines_joined-append found front.others)
-          ∙ append_assoc (lines_joined found) (lines_joined front.others) (lines_of text).tail;
+          sym (text_is_lines text) ∙ ap (λ ls. lines_joined ls ++ (lines_of_text text).tail) front.is ∙ ap (λ l. l ++ (lines_of_text text).tail) (lines_joined-append found front.others)
+          ∙ append_assoc (lines_joined found) (lines_joined front.others) (lines_of_text text).tail;
     }
 
 drop_front : (part rest : List ℕ) → drop (length part) (part ++ rest) ≡ rest
@@ -118,7 +118,7 @@ drop_front (b ∷ part) rest = drop_front part rest
 -- an input is its two parts
 pub parts_are_whole : (bytes : List ℕ) → bytes ≡ script_part bytes ++ report_part bytes
 parts_are_whole bytes =
-    let b = begins_step bytes (lines_to_go (lines_of bytes).ended) refl in
+    let b = begins_step bytes (lines_to_go (lines_of_text bytes).ended) refl in
     b.is ∙ ap (λ l. script_part bytes ++ l) (sym (drop_front (script_part bytes) b.rest) ∙ ap (drop (length (script_part bytes))) (sym b.is))
 
 -- so many bytes of it are the script's part
@@ -157,10 +157,10 @@ script_to_go s number (line ∷ next ∷ lines) known sound e finished still =
     (no_early_go s first.0 number line next second.0 sound.0 first.1 second.1) (script_to_go first.0 (number + 1) (next ∷ lines) known sound.1 first.2 finished goes_on)
 
 -- the lines of lines with a text behind them
-lines_of_both : (texts : List (List ℕ)) (behind : List ℕ) → AllByRecursion (λ line. lacks 10 line ≡ true) texts → (lines_of (lines_joined texts ++ behind)).ended ≡ texts ++ (lines_of behind).ended
+lines_of_both : (texts : List (List ℕ)) (behind : List ℕ) → AllByRecursion (λ line. lacks 10 line ≡ true) texts → (lines_of_text (lines_joined texts ++ behind)).ended ≡ texts ++ (lines_of_text behind).ended
 lines_of_both [] behind lack = refl
 lines_of_both (line ∷ texts) behind lack =
-    ap (λ bytes. (lines_of bytes).ended) (append_assoc line (10 ∷ lines_joined texts) behind)
+    ap (λ bytes. (lines_of_text bytes).ended) (append_assoc line (10 ∷ lines_joined texts) behind)
     ∙ ap (λ (w : Lines). w.ended) (lines_behind line (lines_joined texts ++ behind) lack.0)
     ∙ ap (λ ls. line ∷ ls) (lines_of_both texts behind lack.1)
 
@@ -181,12 +181,12 @@ unread e = cc
 -- a script's text is the script's part of itself with any bytes behind it
 pub part_of_script : (front behind : List ℕ) (s : Script) → ScriptText front s → script_part (front ++ behind) ≡ front
 part_of_script front behind s t =
-    let texts = (lines_of front).ended in
+    let texts = (lines_of_text front).ended in
     let are = t.whole.lines_are in
     let joined : lines_joined texts ≡ front = sym (append-nil (lines_joined texts)) ∙ ap (λ tail. lines_joined texts ++ tail) (sym t.whole.nothing_more) ∙ text_is_lines front in
-    let ended : (lines_of (front ++ behind)).ended ≡ texts ++ (lines_of behind).ended = ap (λ bytes. (lines_of (bytes ++ behind)).ended) (sym joined) ∙ lines_of_both texts behind (ended_lack front) in
+    let ended : (lines_of_text (front ++ behind)).ended ≡ texts ++ (lines_of_text behind).ended = ap (λ bytes. (lines_of_text (bytes ++ behind)).ended) (sym joined) ∙ lines_of_both texts behind (ended_lack front) in
     let to_go : lines_to_go texts ≡ Some texts = ap lines_to_go are.written ∙ script_to_go opening 1 t.lines t.known are.sound are.known_is t.whole.finished unread ∙ ap (λ (ls : List (List ℕ)). let so : Option (List (List ℕ)) = Some ls in so) (sym are.written) in
-    ap (λ o. unwrap_or (option_map lines_joined o) (front ++ behind)) (ap lines_to_go ended ∙ to_go_more texts (lines_of behind).ended texts to_go) ∙ joined
+    ap (λ o. unwrap_or (option_map lines_joined o) (front ++ behind)) (ap lines_to_go ended ∙ to_go_more texts (lines_of_text behind).ended texts to_go) ∙ joined
 
 -- and what stands behind it is the report's part
 pub part_behind_script : (front behind : List ℕ) (s : Script) → ScriptText front s → report_part (front ++ behind) ≡ behind

@@ -7,7 +7,7 @@ use Rattle.std.specs.Prelude.{slice_get, slice_set, if◌then◌else◌}
 use Rattle.prgr_core.specs.declared.watcher.Delay.{Delay}
 use Rattle.prgr_core.specs.declared.watcher.Delay.TheVariants.{Even, Odd}
 use Rattle.prgr_core.specs.declared.watcher.Watcher.{Watcher}
-use Rattle.prgr_core.specs.Watchers.{delay_of, other_delay, is_same_delay, of_delay, holds, holders, with_hold}
+use Rattle.prgr_core.specs.Watchers.{delay_of, other_delay, is_same_delay, of_delay, holds_delay, holders, with_held_count}
 use Rattle.prgr_core.specs.Invariant.{CountsHolders}
 
 -- ---- the two
@@ -30,51 +30,51 @@ delay_of-two c =
 
 -- ---- what a watcher holds
 
-pub hold_set : (d : Delay) (b : Bool) (w : Watcher) → holds d (with_hold d b w) ≡ b
+pub hold_set : (d : Delay) (b : Bool) (w : Watcher) → holds_delay d (with_held_count d b w) ≡ b
 hold_set Even b w = refl
 hold_set Odd b w = refl
 
-pub hold_kept : (d : Delay) (b : Bool) (w : Watcher) → holds (other_delay d) (with_hold d b w) ≡ holds (other_delay d) w
+pub hold_kept : (d : Delay) (b : Bool) (w : Watcher) → holds_delay (other_delay d) (with_held_count d b w) ≡ holds_delay (other_delay d) w
 hold_kept Even b w = refl
 hold_kept Odd b w = refl
 
 -- ---- the holders
 
 -- where a watcher gives way to another, the number of holders changes by what the two hold
-holders_set : (d : Delay) (ws : List Watcher) (k : ℕ) (a b : Watcher) → slice_get ws k ≡ Some a → holders d (slice_set ws k b) + cond (holds d a) 1 0 ≡ holders d ws + cond (holds d b) 1 0
+holders_set : (d : Delay) (ws : List Watcher) (k : ℕ) (a b : Watcher) → slice_get ws k ≡ Some a → holders d (slice_set ws k b) + cond (holds_delay d a) 1 0 ≡ holders d ws + cond (holds_delay d b) 1 0
 holders_set d ws k a b at =
-    subst (λ (x : Watcher). holders d (slice_set ws k b) + cond (holds d x) 1 0 ≡ holders d ws + cond (holds d b) 1 0)
+    subst (λ (x : Watcher). holders d (slice_set ws k b) + cond (holds_delay d x) 1 0 ≡ holders d ws + cond (holds_delay d b) 1 0)
     (get_or_from_slice_get ws k a a at)
-    (sum_by-set (λ x. cond (holds d x) 1 0) ws k b a (slice_get_within ws k a at))
+    (sum_by-set (λ x. cond (holds_delay d x) 1 0) ws k b a (slice_get_within ws k a at))
 
 module _ (d : Delay) (ws : List Watcher) (k : ℕ) (a b : Watcher) (at : slice_get ws k ≡ Some a) where
   -- one holds what the other did not
-  pub holders_gain : holds d a ≡ false → holds d b ≡ true → holders d (slice_set ws k b) ≡ holders d ws + 1
+  pub holders_gain : holds_delay d a ≡ false → holds_delay d b ≡ true → holders d (slice_set ws k b) ≡ holders d ws + 1
   holders_gain before now =
       let changed = holders_set d ws k a b at in
-      let none : ◌≡◌ {A = ℕ} (cond (holds d a) 1 0) 0 = ap (λ (x : Bool). cond x 1 0) before in
-      let one : ◌≡◌ {A = ℕ} (cond (holds d b) 1 0) 1 = ap (λ (x : Bool). cond x 1 0) now in
+      let none : ◌≡◌ {A = ℕ} (cond (holds_delay d a) 1 0) 0 = ap (λ (x : Bool). cond x 1 0) before in
+      let one : ◌≡◌ {A = ℕ} (cond (holds_delay d b) 1 0) 1 = ap (λ (x : Bool). cond x 1 0) now in
       omega (arith, changed, none, one)
 
   -- one does not hold what the other did
-  pub holders_lose : holds d a ≡ true → holds d b ≡ false → holders d (slice_set ws k b) + 1 ≡ holders d ws
+  pub holders_lose : holds_delay d a ≡ true → holds_delay d b ≡ false → holders d (slice_set ws k b) + 1 ≡ holders d ws
   holders_lose before now =
       let changed = holders_set d ws k a b at in
-      let one : ◌≡◌ {A = ℕ} (cond (holds d a) 1 0) 1 = ap (λ (x : Bool). cond x 1 0) before in
-      let none : ◌≡◌ {A = ℕ} (cond (holds d b) 1 0) 0 = ap (λ (x : Bool). cond x 1 0) now in
+      let one : ◌≡◌ {A = ℕ} (cond (holds_delay d a) 1 0) 1 = ap (λ (x : Bool). cond x 1 0) before in
+      let none : ◌≡◌ {A = ℕ} (cond (holds_delay d b) 1 0) 0 = ap (λ (x : Bool). cond x 1 0) now in
       omega (arith, changed, none, one)
 
   -- the two hold the same
-  pub holders_keep : holds d b ≡ holds d a → holders d (slice_set ws k b) ≡ holders d ws
+  pub holders_keep : holds_delay d b ≡ holds_delay d a → holders d (slice_set ws k b) ≡ holders d ws
   holders_keep same =
       let changed = holders_set d ws k a b at in
-      let as_before : ◌≡◌ {A = ℕ} (cond (holds d b) 1 0) (cond (holds d a) 1 0) = ap (λ (x : Bool). cond x 1 0) same in
+      let as_before : ◌≡◌ {A = ℕ} (cond (holds_delay d b) 1 0) (cond (holds_delay d a) 1 0) = ap (λ (x : Bool). cond x 1 0) same in
       omega (arith, changed, as_before)
 
 -- a count that a watcher holds has a holder
-pub is_held : (d : Delay) (ws : List Watcher) (k : ℕ) (a : Watcher) → slice_get ws k ≡ Some a → holds d a ≡ true → 1 ≤ holders d ws
+pub is_held : (d : Delay) (ws : List Watcher) (k : ℕ) (a : Watcher) → slice_get ws k ≡ Some a → holds_delay d a ≡ true → 1 ≤ holders d ws
 is_held d ws k a at held =
-    let fewer = holders_lose d ws k a (with_hold d false a) at held (hold_set d false a) in
+    let fewer = holders_lose d ws k a (with_held_count d false a) at held (hold_set d false a) in
     omega (arith, fewer)
 
 -- ---- the counts

@@ -10,7 +10,7 @@ use Rattle.prgr_core.specs.declared.watcher.TheConstants.{DELAY_COUNTS}
 use Rattle.prgr_core.specs.declared.event.PrgrEvent.{PrgrEvent}
 use Rattle.prgr_core.specs.declared.event.PrgrEvent.TheVariants.{LoadCounter, LoadRoot, Report, Lead, Scan, ScanDelay, Advance, GiveUp, Wait, Enter, Publish, Retire, Release, WatchLoad, WatchAdd, WatchRoot, WatchSub}
 use Rattle.prgr_core.specs.EventText.{space, line_feed, worded, worded_twice, event_text, IsAllowed}
-use Rattle.prgr_core.specs.Reading.{with_first, cut_at, number_of, number_below, numbers_by, numbers_below, member_words, by_word, worded_event, event_by, event_of}
+use Rattle.prgr_core.specs.Reading.{with_first, cut_at, event_number, number_below, numbers_by, numbers_below, member_words, by_word, worded_event, event_by, event_of}
 use Rattle.prgr_core.proofs.Parts.{and_then_some, some_same}
 use Rattle.prgr_core.proofs.Numerals.{number_of_sound, number_of_decimal, Lacks, decimal_lacks}
 use Rattle.prgr_core.proofs.Texts.{cut_parts}
@@ -147,7 +147,7 @@ map_some f (Some x) u e = (x, refl, some_same (f x) u e)
 
 number_some : (count : ℕ) (text : List ℕ) (n : ℕ) → number_below count text ≡ Some n → (text ≡ decimal n) × (n < count)
 number_some count text n e =
-    let found = and_then_some (λ m. if nat_lt m count then Some m else None) (number_of text) n e in
+    let found = and_then_some (λ m. if nat_lt m count then Some m else None) (event_number text) n e in
     let made = cond_some (nat_lt found.0 count) found.0 n found.2 in
     let text_is = (number_of_sound text found.0 found.1).0 in
     (text_is ∙ ap decimal made.1, subst (λ m. m < count) made.1 (ltb-true found.0 count made.0))
@@ -175,9 +175,9 @@ module _ (members watchers : ℕ) (line word rest : List ℕ) (parts : line ≡ 
   line_is : (name numbers : List ℕ) → bytes_eq word name ≡ true → rest ≡ numbers → line ≡ name ++ space ∷ numbers
   line_is name numbers named is = parts ∙ ap (λ (x : List ℕ). x ++ space ∷ rest) (same_bytes word name named) ∙ ap (λ (x : List ℕ). name ++ space ∷ x) is
 
-  release_says : (event : PrgrEvent) → bytes_eq word (codes "release") ≡ true → option_map (λ g. Release g) (number_of rest) ≡ Some event → Says members watchers line event
+  release_says : (event : PrgrEvent) → bytes_eq word (codes "release") ≡ true → option_map (λ g. Release g) (event_number rest) ≡ Some event → Says members watchers line event
   release_says event named e =
-      let found = map_some (λ g. Release g) (number_of rest) event e in
+      let found = map_some (λ g. Release g) (event_number rest) event e in
       let number = number_of_sound rest found.0 found.1 in
       subst (Says members watchers line) found.2 (line_is (codes "release") (decimal found.0) named number.0, number.1)
 

@@ -10,7 +10,7 @@ use Rattle.prgr_core.specs.declared.fault.EventFault.TheVariants as faults
 use Rattle.prgr_core.specs.declared.event.Events.{Events}
 use Rattle.prgr_core.specs.declared.event.PrgrEvent.{PrgrEvent}
 use Rattle.prgr_core.specs.EventText.{space, line_feed, worded, line_then, EventText}
-use Rattle.prgr_core.specs.Reading.{◌>>=◌, Gives, cut_at, Lines, lines, before_lines, lines_of, count_by, end_fault, or_fault, list_on, reading}
+use Rattle.prgr_core.specs.Reading.{◌>>=◌, Gives, cut_at, LinesOfEvents, ended_lines, before_lines, event_lines_of, count_by, end_fault, or_fault, list_on, reading}
 use Rattle.prgr_core.specs.Faults.{joined, Opens, IsFirstFault, IsFaultOf}
 use Rattle.prgr_core.proofs.Numerals.{Lacks}
 use Rattle.prgr_core.proofs.Texts.{lines_of_cut}
@@ -184,33 +184,33 @@ before_lack : (b : ℕ) (ended : List (List ℕ)) (tail : List ℕ) → (b ≡ l
 before_lack b [] tail other all = tt
 before_lack b (line ∷ others) tail other all = ((other, all.0), all.1)
 
-lines_lack : (text : List ℕ) → AllLack (lines_of text).ended
+lines_lack : (text : List ℕ) → AllLack (event_lines_of text).ended
 lines_lack [] = tt
 lines_lack (b ∷ bs) =
-    elim (b == line_feed) as (λ (t : Bool). (b == line_feed) ≡ t → AllLack (if t then lines ([] ∷ (lines_of bs).ended) (lines_of bs).tail else before_lines b (lines_of bs).ended (lines_of bs).tail).ended) [
+    elim (b == line_feed) as (λ (t : Bool). (b == line_feed) ≡ t → AllLack (if t then ended_lines ([] ∷ (event_lines_of bs).ended) (event_lines_of bs).tail else before_lines b (event_lines_of bs).ended (event_lines_of bs).tail).ended) [
       | true ↦ λ _. (tt, lines_lack bs)
-      | false ↦ λ is. before_lack b (lines_of bs).ended (lines_of bs).tail (eqb-false b line_feed is) (lines_lack bs)
+      | false ↦ λ is. before_lack b (event_lines_of bs).ended (event_lines_of bs).tail (eqb-false b line_feed is) (lines_lack bs)
     ] refl
 
 take_lack : (n : ℕ) (ls : List (List ℕ)) → AllLack ls → AllLack (take n ls)
 take_lack (suc n) (line ∷ others) all = (all.0, take_lack n others all.1)
 take_lack n ls all = tt
 
-lines_of_joined : (ls : List (List ℕ)) (rest : List ℕ) → AllLack ls → lines_of (joined ls rest) ≡ lines (ls ++ (lines_of rest).ended) (lines_of rest).tail
+lines_of_joined : (ls : List (List ℕ)) (rest : List ℕ) → AllLack ls → event_lines_of (joined ls rest) ≡ ended_lines (ls ++ (event_lines_of rest).ended) (event_lines_of rest).tail
 lines_of_joined [] rest all = refl
 lines_of_joined (line ∷ others) rest all =
     lines_of_cut (line_then line (joined others rest)) (line, joined others rest) (cut_here line_feed line (joined others rest) all.0)
-    ∙ ap (λ (w : Lines). lines (line ∷ w.ended) w.tail) (lines_of_joined others rest all.1)
+    ∙ ap (λ (w : LinesOfEvents). ended_lines (line ∷ w.ended) w.tail) (lines_of_joined others rest all.1)
 
 -- what is refused whatever follows begins no text of the grammar
-no_form : (text : List ℕ) (n : ℕ) (refused : Refused (lines_of text).ended n) → Opens (take n (lines_of text).ended) → ⊥
+no_form : (text : List ℕ) (n : ℕ) (refused : Refused (event_lines_of text).ended n) → Opens (take n (event_lines_of text).ended) → ⊥
 no_form text n refused opens =
-    let front = take n (lines_of text).ended in
+    let front = take n (event_lines_of text).ended in
     let read = reading_complete (joined front opens.1) opens.0 opens.2 in
-    let at = lines_of_joined front opens.1 (take_lack n (lines_of text).ended (lines_lack text)) in
-    let always : head_on (front ++ (lines_of opens.1).ended) (lines_of opens.1).tail ≡ Err n =
-    subst (λ (k : ℕ). head_on (take k (lines_of text).ended ++ (lines_of opens.1).ended) (lines_of opens.1).tail ≡ Err n) (sym refused.line) (refused.always (lines_of opens.1).ended (lines_of opens.1).tail) in
-    ok_err opens.0 n (sym read ∙ by_lines (joined front opens.1) ∙ ap (λ (w : Lines). head_on w.ended w.tail) at ∙ always)
+    let at = lines_of_joined front opens.1 (take_lack n (event_lines_of text).ended (lines_lack text)) in
+    let always : head_on (front ++ (event_lines_of opens.1).ended) (event_lines_of opens.1).tail ≡ Err n =
+    subst (λ (k : ℕ). head_on (take k (event_lines_of text).ended ++ (event_lines_of opens.1).ended) (event_lines_of opens.1).tail ≡ Err n) (sym refused.line) (refused.always (event_lines_of opens.1).ended (event_lines_of opens.1).tail) in
+    ok_err opens.0 n (sym read ∙ by_lines (joined front opens.1) ∙ ap (λ (w : LinesOfEvents). head_on w.ended w.tail) at ∙ always)
 
 take_drop : {A : Type 0} (n : ℕ) (xs : List A) → take n xs ++ drop n xs ≡ xs
 take_drop (suc n) (x ∷ xs) = ap (λ l. x ∷ l) (take_drop n xs)
@@ -222,8 +222,8 @@ one_less n k e = omega (arith, e)
 -- the line of a fault is the first of another form
 pub first_fault : (text : List ℕ) (n : ℕ) → reading text ≡ Err n → IsFirstFault text n
 first_fault text n e =
-    let ended = (lines_of text).ended in
-    elim (head_fault ended (lines_of text).tail n (sym (by_lines text) ∙ e)) as (λ _. IsFirstFault text n) [
+    let ended = (event_lines_of text).ended in
+    elim (head_fault ended (event_lines_of text).tail n (sym (by_lines text) ∙ e)) as (λ _. IsFirstFault text n) [
       | inl refused ↦
           let at = refused.line in
           let within = refused.within in

@@ -13,7 +13,7 @@ use Rattle.prgr_core.specs.declared.watcher.TheConstants.{MOST_WATCHERS}
 use Rattle.prgr_core.specs.declared.event.Events.{Events}
 use Rattle.prgr_core.specs.declared.event.PrgrEvent.{PrgrEvent}
 use Rattle.prgr_core.specs.EventText.{space, line_feed, worded, event_text, line_then, list_text, IsAllowed, EventText}
-use Rattle.prgr_core.specs.Reading.{◌>>=◌, Gives, cut_at, Lines, lines, before_lines, lines_of, number_of, event_of, count_by, line_by, line_at, expected, or_fault, count_at, at_end, list_on, list_at, reading}
+use Rattle.prgr_core.specs.Reading.{◌>>=◌, Gives, cut_at, LinesOfEvents, ended_lines, before_lines, event_lines_of, event_number, event_of, count_by, line_by, line_at, expected, or_fault, count_at, at_end, list_on, list_at, reading}
 use Rattle.prgr_core.specs.Faults.{joined}
 use Rattle.prgr_core.proofs.Parts.{and_then_some}
 use Rattle.prgr_core.proofs.Numerals.{number_of_sound, number_of_decimal, Lacks}
@@ -64,7 +64,7 @@ pub count_by_ok : (word : List ℕ) (least most : ℕ) (line : List ℕ) (o : Op
 count_by_ok word least most line None n cut e = absurd (cc)
 count_by_ok word least most line (Some p) n cut e =
     let made = count_ok (bytes_eq p.0 word) _ n e in
-    let found = and_then_some (λ m. if nat_le least m && nat_le m most then Some m else None) (number_of p.1) n made.1 in
+    let found = and_then_some (λ m. if nat_le least m && nat_le m most then Some m else None) (event_number p.1) n made.1 in
     let range = cond_some (nat_le least found.0 && nat_le found.0 most) found.0 n found.2 in
     let both = and_parts (nat_le least found.0) (nat_le found.0 most) range.0 in
     let number = (number_of_sound p.1 found.0 found.1).0 ∙ ap decimal range.1 in (
@@ -86,12 +86,12 @@ joined_before : (b : ℕ) (ended : List (List ℕ)) (tail : List ℕ) → joined
 joined_before b [] tail = refl
 joined_before b (line ∷ others) tail = refl
 
-joined_lines : (text : List ℕ) → joined (lines_of text).ended (lines_of text).tail ≡ text
+joined_lines : (text : List ℕ) → joined (event_lines_of text).ended (event_lines_of text).tail ≡ text
 joined_lines [] = refl
 joined_lines (b ∷ bs) =
-    elim (b == line_feed) as (λ (t : Bool). (b == line_feed) ≡ t → joined (if t then lines ([] ∷ (lines_of bs).ended) (lines_of bs).tail else before_lines b (lines_of bs).ended (lines_of bs).tail).ended (if t then lines ([] ∷ (lines_of bs).ended) (lines_of bs).tail else before_lines b (lines_of bs).ended (lines_of bs).tail).tail ≡ b ∷ bs) [
-      | true ↦ λ is. ap (λ (x : ℕ). x ∷ joined (lines_of bs).ended (lines_of bs).tail) (sym (eqb-true b line_feed is)) ∙ ap (λ (l : List ℕ). b ∷ l) (joined_lines bs)
-      | false ↦ λ _. joined_before b (lines_of bs).ended (lines_of bs).tail ∙ ap (λ (l : List ℕ). b ∷ l) (joined_lines bs)
+    elim (b == line_feed) as (λ (t : Bool). (b == line_feed) ≡ t → joined (if t then ended_lines ([] ∷ (event_lines_of bs).ended) (event_lines_of bs).tail else before_lines b (event_lines_of bs).ended (event_lines_of bs).tail).ended (if t then ended_lines ([] ∷ (event_lines_of bs).ended) (event_lines_of bs).tail else before_lines b (event_lines_of bs).ended (event_lines_of bs).tail).tail ≡ b ∷ bs) [
+      | true ↦ λ is. ap (λ (x : ℕ). x ∷ joined (event_lines_of bs).ended (event_lines_of bs).tail) (sym (eqb-true b line_feed is)) ∙ ap (λ (l : List ℕ). b ∷ l) (joined_lines bs)
+      | false ↦ λ _. joined_before b (event_lines_of bs).ended (event_lines_of bs).tail ∙ ap (λ (l : List ℕ). b ∷ l) (joined_lines bs)
     ] refl
 
 -- more events follow those that were read, and their lines are these
@@ -128,7 +128,7 @@ list_on_ok members watchers number events (line ∷ others) tail all e =
 
 list_at_ok : (members watchers : ℕ) (text : List ℕ) (all : List PrgrEvent) → list_at members watchers text ≡ Ok all → (text ≡ list_text all) × AllByRecursion (IsAllowed members watchers) all
 list_at_ok members watchers text all e =
-    let read = list_on_ok members watchers 4 [] (lines_of text).ended (lines_of text).tail all e in
+    let read = list_on_ok members watchers 4 [] (event_lines_of text).ended (event_lines_of text).tail all e in
     (sym (joined_lines text) ∙ read.spelled ∙ ap list_text (sym read.whole), subst (AllByRecursion (IsAllowed members watchers)) (sym read.whole) read.allowed)
 
 -- what is read is a text of the grammar
@@ -168,7 +168,7 @@ count_read : (word : List ℕ) (least most n : ℕ) → Lacks space word → IsC
 count_read word least most n lacks is small =
     let digits = decimal n in
     ap (count_by word least most) (cut_here space word digits lacks)
-    ∙ ap (λ (t : Bool). if t then option_and_then (λ m. if nat_le least m && nat_le m most then Some m else None) (number_of digits) else None) ((bytes_eq-Decides word word).1 refl)
+    ∙ ap (λ (t : Bool). if t then option_and_then (λ m. if nat_le least m && nat_le m most then Some m else None) (event_number digits) else None) ((bytes_eq-Decides word word).1 refl)
     ∙ ap (option_and_then (λ m. if nat_le least m && nat_le m most then Some m else None)) (number_of_decimal n small)
     ∙ ap (λ (t : Bool). if t && nat_le n most then Some n else None) (le-leb least n is.0)
     ∙ ap (λ (t : Bool). if t then Some n else None) (le-leb n most is.1)
@@ -178,14 +178,14 @@ count_here number word least most n rest lacks lacks_too is small =
     ap (λ (r : Result (List ℕ × List ℕ) ℕ). r >>= (λ p. or_fault number (count_by word least most (cut_at space p.0)) >>= (λ m. Ok (m, p.1)))) (line_here number (worded word n) rest lacks_too)
     ∙ ap (λ (o : Option ℕ). or_fault number o >>= (λ m. Ok (m, rest))) (count_read word least most n lacks is small)
 
-list_here : (members watchers number : ℕ) (events more : List PrgrEvent) → IsFew members → IsFew watchers → AllByRecursion (IsAllowed members watchers) more → list_on members watchers number events (lines_of (list_text more)).ended (lines_of (list_text more)).tail ≡ Ok (events ++ more)
+list_here : (members watchers number : ℕ) (events more : List PrgrEvent) → IsFew members → IsFew watchers → AllByRecursion (IsAllowed members watchers) more → list_on members watchers number events (event_lines_of (list_text more)).ended (event_lines_of (list_text more)).tail ≡ Ok (events ++ more)
 list_here members watchers number events [] few few_too allowed = ap (λ (x : List PrgrEvent). Ok x) (sym (append-nil events))
 list_here members watchers number events (event ∷ more) few few_too allowed =
     let rest = list_text more in
-    let others = (lines_of rest).ended in
-    let tail = (lines_of rest).tail in
+    let others = (event_lines_of rest).ended in
+    let tail = (event_lines_of rest).tail in
     let cut = cut_here line_feed (event_text event) rest (event_lacks members watchers event few few_too allowed.0) in
-    ap (λ (w : Lines). list_on members watchers number events w.ended w.tail) (lines_of_cut (line_then (event_text event) rest) (event_text event, rest) cut)
+    ap (λ (w : LinesOfEvents). list_on members watchers number events w.ended w.tail) (lines_of_cut (line_then (event_text event) rest) (event_text event, rest) cut)
     ∙ ap (λ (t : Bool). if t then at_end (number + 1) events others tail else (or_fault number (event_of members watchers (event_text event)) >>= (λ e. list_on members watchers (number + 1) (events ++ e ∷ []) others tail))) (not_go event)
     ∙ ap (λ (o : Option PrgrEvent). or_fault number o >>= (λ e. list_on members watchers (number + 1) (events ++ e ∷ []) others tail)) (event_read members watchers event few few_too allowed.0)
     ∙ list_here members watchers (number + 1) (events ++ event ∷ []) more few few_too allowed.1

@@ -9,7 +9,7 @@ use Rattle.prgr_core.specs.declared.watcher.TheConstants.{MOST_WATCHERS}
 use Rattle.prgr_core.specs.declared.event.Events.{Events}
 use Rattle.prgr_core.specs.declared.event.PrgrEvent.{PrgrEvent}
 use Rattle.prgr_core.specs.EventText.{space, line_feed, event_text, line_then, list_text, IsAllowed}
-use Rattle.prgr_core.specs.Reading.{◌>>=◌, cut_at, Lines, lines_of, event_of, count_by, end_fault, line_by, line_at, or_fault, count_at, at_end, list_on, list_at, reading}
+use Rattle.prgr_core.specs.Reading.{◌>>=◌, cut_at, LinesOfEvents, event_lines_of, event_of, count_by, end_fault, line_by, line_at, or_fault, count_at, at_end, list_on, list_at, reading}
 use Rattle.prgr_core.specs.Faults.{joined}
 use Rattle.prgr_core.proofs.Texts.{lines_of_cut, lines_of_tail}
 use Rattle.prgr_core.proofs.EventLines.{event_of_sound, same_bytes}
@@ -49,30 +49,30 @@ bind_if true x line g = refl
 bind_if false x line g = refl
 
 -- one line of a text is the first of its lines
-stage : (number : ℕ) (text : List ℕ) (f : List ℕ × List ℕ → Result Events ℕ) (g : List (List ℕ) → List ℕ → Result Events ℕ) → ((tail : List ℕ) → Err (end_fault number tail) ≡ g [] tail) → ((p : List ℕ × List ℕ) → f p ≡ g (p.0 ∷ (lines_of p.1).ended) (lines_of p.1).tail) → (line_at number text >>= f) ≡ g (lines_of text).ended (lines_of text).tail
+stage : (number : ℕ) (text : List ℕ) (f : List ℕ × List ℕ → Result Events ℕ) (g : List (List ℕ) → List ℕ → Result Events ℕ) → ((tail : List ℕ) → Err (end_fault number tail) ≡ g [] tail) → ((p : List ℕ × List ℕ) → f p ≡ g (p.0 ∷ (event_lines_of p.1).ended) (event_lines_of p.1).tail) → (line_at number text >>= f) ≡ g (event_lines_of text).ended (event_lines_of text).tail
 stage number text f g ends goes =
-    elim (cut_at line_feed text) as (λ (o : Option (List ℕ × List ℕ)). cut_at line_feed text ≡ o → (line_by number text o >>= f) ≡ g (lines_of text).ended (lines_of text).tail) [
-      | None ↦ λ cut. ends text ∙ ap (λ (w : Lines). g w.ended w.tail) (sym (lines_of_tail text cut))
-      | Some p ↦ λ cut. goes p ∙ ap (λ (w : Lines). g w.ended w.tail) (sym (lines_of_cut text p cut))
+    elim (cut_at line_feed text) as (λ (o : Option (List ℕ × List ℕ)). cut_at line_feed text ≡ o → (line_by number text o >>= f) ≡ g (event_lines_of text).ended (event_lines_of text).tail) [
+      | None ↦ λ cut. ends text ∙ ap (λ (w : LinesOfEvents). g w.ended w.tail) (sym (lines_of_tail text cut))
+      | Some p ↦ λ cut. goes p ∙ ap (λ (w : LinesOfEvents). g w.ended w.tail) (sym (lines_of_cut text p cut))
     ] refl
 
-count_stage : (number : ℕ) (word : List ℕ) (least most : ℕ) (f : ℕ × List ℕ → Result Events ℕ) (g : ℕ → List (List ℕ) → List ℕ → Result Events ℕ) → ((n : ℕ) (rest : List ℕ) → f (n, rest) ≡ g n (lines_of rest).ended (lines_of rest).tail) → (text : List ℕ) → (count_at number word least most text >>= f) ≡ counted number word least most g (lines_of text).ended (lines_of text).tail
+count_stage : (number : ℕ) (word : List ℕ) (least most : ℕ) (f : ℕ × List ℕ → Result Events ℕ) (g : ℕ → List (List ℕ) → List ℕ → Result Events ℕ) → ((n : ℕ) (rest : List ℕ) → f (n, rest) ≡ g n (event_lines_of rest).ended (event_lines_of rest).tail) → (text : List ℕ) → (count_at number word least most text >>= f) ≡ counted number word least most g (event_lines_of text).ended (event_lines_of text).tail
 count_stage number word least most f g goes text =
     bind_bind (line_at number text) _ _
     ∙ stage number text _ (counted number word least most g) (λ tail. refl) (λ p. behind (count_by word least most (cut_at space p.0)) p.1)
   where
-    behind : (o : Option ℕ) (rest : List ℕ) → ((or_fault number o >>= (λ n. Ok (n, rest))) >>= f) ≡ (or_fault number o >>= (λ n. g n (lines_of rest).ended (lines_of rest).tail))
+    behind : (o : Option ℕ) (rest : List ℕ) → ((or_fault number o >>= (λ n. Ok (n, rest))) >>= f) ≡ (or_fault number o >>= (λ n. g n (event_lines_of rest).ended (event_lines_of rest).tail))
     behind None rest = refl
     behind (Some n) rest = goes n rest
 
-watchers_stage : (m : ℕ) (text : List ℕ) → (count_at 3 (codes "watchers") 0 MOST_WATCHERS text >>= (λ p. list_at m p.0 p.1 >>= (λ list. Ok (whole m p.0 list)))) ≡ watchers_on m (lines_of text).ended (lines_of text).tail
+watchers_stage : (m : ℕ) (text : List ℕ) → (count_at 3 (codes "watchers") 0 MOST_WATCHERS text >>= (λ p. list_at m p.0 p.1 >>= (λ list. Ok (whole m p.0 list)))) ≡ watchers_on m (event_lines_of text).ended (event_lines_of text).tail
 watchers_stage m text = count_stage 3 (codes "watchers") 0 MOST_WATCHERS _ (list_stage m) (λ w rest. refl) text
 
-members_stage : (text : List ℕ) → (count_at 2 (codes "members") 1 MOST_MEMBERS text >>= (λ q. count_at 3 (codes "watchers") 0 MOST_WATCHERS q.1 >>= (λ p. list_at q.0 p.0 p.1 >>= (λ list. Ok (whole q.0 p.0 list))))) ≡ members_on (lines_of text).ended (lines_of text).tail
+members_stage : (text : List ℕ) → (count_at 2 (codes "members") 1 MOST_MEMBERS text >>= (λ q. count_at 3 (codes "watchers") 0 MOST_WATCHERS q.1 >>= (λ p. list_at q.0 p.0 p.1 >>= (λ list. Ok (whole q.0 p.0 list))))) ≡ members_on (event_lines_of text).ended (event_lines_of text).tail
 members_stage text = count_stage 2 (codes "members") 1 MOST_MEMBERS _ watchers_on (λ m rest. watchers_stage m rest) text
 
 -- the reading is that of the lines
-pub by_lines : (text : List ℕ) → reading text ≡ head_on (lines_of text).ended (lines_of text).tail
+pub by_lines : (text : List ℕ) → reading text ≡ head_on (event_lines_of text).ended (event_lines_of text).tail
 by_lines text =
     bind_bind (line_at 1 text) _ _
     ∙ stage 1 text _ head_on (λ tail. refl) (λ p. bind_if (bytes_eq p.0 (codes "beam progress 1")) p.1 1 _ ∙ ap (λ (r : Result Events ℕ). if bytes_eq p.0 (codes "beam progress 1") then r else Err 1) (members_stage p.1))

@@ -8,7 +8,7 @@ use Rattle.std.proofs.lemmas.Bool.{ltb-true, lt-ltb, eqb-false, ne_eqb, le-leb, 
 use Rattle.std.proofs.lemmas.List.{append-nil}
 use Rattle.std.proofs.lemmas.Str.Parse.{digit_from_value}
 use Rattle.std.proofs.lemmas.Fmt.{decimal_digit, decimal_step, decimal_by_steps, decimal_is_IsNumeral}
-use Rattle.prgr_core.specs.Reading.{with_digit, number_on, number_of}
+use Rattle.prgr_core.specs.Reading.{with_digit, number_on, event_number}
 use Rattle.prgr_core.proofs.Parts.{and_then_some, unless_made, some_same}
 
 digit_true : (c : ℕ) → is_ascii_digit c ≡ true → (48 ≤ c) × (c ≤ 57)
@@ -54,7 +54,7 @@ number_on_sound n (c ∷ cs) m small e =
     (sym (append_assoc (decimal n) (c ∷ []) cs) ∙ ap (λ (l : List ℕ). l ++ cs) (sym text) ∙ more.0, more.1)
 
 -- what is read as a number is its decimal text
-pub number_of_sound : (text : List ℕ) (m : ℕ) → number_of text ≡ Some m → (text ≡ decimal m) × (m < 2 ^ 64)
+pub number_of_sound : (text : List ℕ) (m : ℕ) → event_number text ≡ Some m → (text ≡ decimal m) × (m < 2 ^ 64)
 number_of_sound [] m e = absurd (cc)
 number_of_sound (c ∷ cs) m e =
     elim (is_ascii_digit c) as (λ (t : Bool). is_ascii_digit c ≡ t → (if t then number_on (c - 48) cs else None) ≡ Some m → (c ∷ cs ≡ decimal m) × (m < 2 ^ 64)) [
@@ -78,7 +78,7 @@ number_on-push n (d ∷ ds) c v w is more =
     let found = and_then_some (λ x. number_on x ds) (with_digit n d) v is in
     ap (option_and_then (λ x. number_on x (ds ++ c ∷ []))) found.1 ∙ number_on-push found.0 ds c v w found.2 more
 
-number_of-push : (ds : List ℕ) (c v w : ℕ) → number_of ds ≡ Some v → with_digit v c ≡ Some w → number_of (ds ++ c ∷ []) ≡ Some w
+number_of-push : (ds : List ℕ) (c v w : ℕ) → event_number ds ≡ Some v → with_digit v c ≡ Some w → event_number (ds ++ c ∷ []) ≡ Some w
 number_of-push [] c v w is more = absurd (cc)
 number_of-push (d ∷ ds) c v w is more =
     elim (is_ascii_digit d) as (λ (t : Bool). (if t then number_on (d - 48) ds else None) ≡ Some v → (if t then number_on (d - 48) (ds ++ c ∷ []) else None) ≡ Some w) [
@@ -86,14 +86,14 @@ number_of-push (d ∷ ds) c v w is more =
       | false ↦ λ found. absurd (cc)
     ] is
 
-one_digit : (n : ℕ) → n < 10 → number_of ((48 + n) ∷ []) ≡ Some n
+one_digit : (n : ℕ) → n < 10 → event_number ((48 + n) ∷ []) ≡ Some n
 one_digit n small =
     let low : 48 ≤ 48 + n = omega arith in
     let high : 48 + n ≤ 57 = omega arith in
     let same : 48 + n - 48 ≡ n = omega arith in
     rw (true_digit (48 + n) low high) (ap (λ (x : ℕ). Some x) same)
 
-more_digits : (n : ℕ) (ds : List ℕ) → 10 ≤ n → (n / 10 < 2 ^ 64 → number_of ds ≡ Some (n / 10)) → n < 2 ^ 64 → number_of (ds ++ (48 + n % 10) ∷ []) ≡ Some n
+more_digits : (n : ℕ) (ds : List ℕ) → 10 ≤ n → (n / 10 < 2 ^ 64 → event_number ds ≡ Some (n / 10)) → n < 2 ^ 64 → event_number (ds ++ (48 + n % 10) ∷ []) ≡ Some n
 more_digits n ds ten before small =
     let front : n / 10 < 2 ^ 64 = omega arith in
     let some : n / 10 ≡ 0 → ⊥ = λ e. omega (arith, e) in
@@ -104,8 +104,8 @@ more_digits n ds ten before small =
     number_of-push ds (48 + n % 10) (n / 10) n (before front) (with_digit_is (n / 10) (48 + n % 10) some low high room ∙ ap (λ (x : ℕ). Some x) same)
 
 -- the decimal text of a number is read as the number
-pub number_of_decimal : (n : ℕ) → n < 2 ^ 64 → number_of (decimal n) ≡ Some n
-number_of_decimal n small = decimal_by_steps (λ m ds. m < 2 ^ 64 → number_of ds ≡ Some m) (λ m one _. one_digit m one) more_digits n small small
+pub number_of_decimal : (n : ℕ) → n < 2 ^ 64 → event_number (decimal n) ≡ Some n
+number_of_decimal n small = decimal_by_steps (λ m ds. m < 2 ^ 64 → event_number ds ≡ Some m) (λ m one _. one_digit m one) more_digits n small small
 
 -- ---- bytes that a text lacks
 

@@ -9,10 +9,10 @@ use Rattle.prgr_core.specs.declared.member.Retirement.{Retirement}
 use Rattle.prgr_core.specs.declared.watcher.Watcher.{Watcher}
 use Rattle.prgr_core.specs.declared.watcher.Delay.{Delay}
 use Rattle.prgr_core.specs.declared.watcher.Delay.TheVariants.{Even, Odd}
-use Rattle.prgr_core.specs.Watchers.{of_delay, holds, holders}
+use Rattle.prgr_core.specs.Watchers.{of_delay, holds_delay, holders}
 use Rattle.prgr_core.specs.Machine.{machine_of}
 use Rattle.prgr_core.specs.Invariant.{WordFits, WordIsNear, LoadedIsNear, ScannedIsDone, ScannedHasCounter, LeadsAsLeader, LeaderLeads, LeaderIsAwake, LeaderKnows, ClaimHoldsBack, WatcherInvariant}
-use Rattle.prgr_core.specs.Step.{IsSound, opening_member, opening_members, opening_watcher, opening_watchers, opening}
+use Rattle.prgr_core.specs.Step.{IsSound, opening_member, opening_members, opening_watcher, opening_watchers, progress_opening}
 use Rattle.prgr_core.proofs.Parts.{slice_get-push_at}
 
 length-opening : (n : ℕ) → length (opening_members n) ≡ n
@@ -42,7 +42,7 @@ watcher_at (suc n) k w e =
       | inr last ↦ let len = length-opening_watchers n in let same : k ≡ n = omega (arith, last.0, len) in last.1 ∙ ap opening_watcher (sym same)
     ]
 
-holds_none : (delay : Delay) (k : ℕ) → holds delay (opening_watcher k) ≡ false
+holds_none : (delay : Delay) (k : ℕ) → holds_delay delay (opening_watcher k) ≡ false
 holds_none Even k = refl
 holds_none Odd k = refl
 
@@ -50,8 +50,8 @@ holds_none Odd k = refl
 no_holders : (delay : Delay) (n : ℕ) → holders delay (opening_watchers n) ≡ 0
 no_holders delay zero = refl
 no_holders delay (suc n) =
-    let one : ◌≡◌ {A = ℕ} (cond (holds delay (opening_watcher n)) 1 0) 0 = ap (λ (b : Bool). cond b 1 0) (holds_none delay n) in
-    let parts = sum_by-append (λ w. cond (holds delay w) 1 0) (opening_watchers n) (opening_watcher n ∷ []) in
+    let one : ◌≡◌ {A = ℕ} (cond (holds_delay delay (opening_watcher n)) 1 0) 0 = ap (λ (b : Bool). cond b 1 0) (holds_none delay n) in
+    let parts = sum_by-append (λ w. cond (holds_delay delay w) 1 0) (opening_watchers n) (opening_watcher n ∷ []) in
     let before = no_holders delay n in
     omega (arith, parts, before, one)
 
@@ -69,7 +69,7 @@ opening_watcher_invariant k WasRetired = record {
 }
 
 -- the opening state is sound
-pub opening_sound : (n w : ℕ) → n ≤ MOST_MEMBERS → w ≤ MOST_WATCHERS → IsSound (opening n w)
+pub opening_sound : (n w : ℕ) → n ≤ MOST_MEMBERS → w ≤ MOST_WATCHERS → IsSound (progress_opening n w)
 opening_sound n w few few_watchers =
     let each : (a : Member) → slice_get (opening_members n) a.number ≡ Some a → a ≡ opening_member a.number = λ a is. (opening_at n a.number a is).0 in
     let by : (P : Member → Type 0) → ((k : ℕ) → P (opening_member k)) → (a : Member) → slice_get (opening_members n) a.number ≡ Some a → P a = λ P all a is. subst P (sym (each a is)) (all a.number) in
@@ -90,7 +90,7 @@ opening_sound n w few few_watchers =
         loaded_later = λ a is n v was. absurd (no_element was.0 was.1);
         delays_counted = λ delay. opening_counts delay ∙ sym (no_holders delay w);
         claims_hold_back = λ x y is_x is_y. by (λ z. ClaimHoldsBack 1 z y) (λ k none. absurd none) x is_x;
-        each_watcher = λ x is. subst (WatcherInvariant 1 (machine_of (opening n w)).WasRetired) (sym (watcher_at w is.0 x is.1)) (opening_watcher_invariant is.0 (machine_of (opening n w)).WasRetired);
+        each_watcher = λ x is. subst (WatcherInvariant 1 (machine_of (progress_opening n w)).WasRetired) (sym (watcher_at w is.0 x is.1)) (opening_watcher_invariant is.0 (machine_of (progress_opening n w)).WasRetired);
       };
       numbered = λ k a is. let old = opening_at n k a is in ap (λ (x : Member). x.number) old.0;
       few = omega (arith, length-opening n, few);

@@ -7,7 +7,7 @@ use Rattle.prgr_core.specs.declared.event.PrgrEvent.{PrgrEvent}
 use Rattle.prgr_core.specs.declared.event.PrgrEvent.TheVariants.{LoadCounter, LoadRoot, Report, Lead, Scan, ScanDelay, Advance, GiveUp, Wait, Enter, Publish, Retire, Release, WatchLoad, WatchAdd, WatchRoot, WatchSub}
 use Rattle.prgr_core.specs.Needs.{need_of}
 use Rattle.prgr_core.specs.Machine.{machine_of}
-use Rattle.prgr_core.specs.Step.{after, IsSound, released, with_retirement, with_pair}
+use Rattle.prgr_core.specs.Step.{after, IsSound, progress_released, with_retirement, with_pair}
 use Rattle.prgr_core.proofs.WriterChanges.{publish_keeps, retire_keeps}
 use Rattle.prgr_core.proofs.SoundParts.{sound_with, is_numbered}
 use Rattle.prgr_core.proofs.SoundMembers.{counter_loaded_sound, root_loaded_sound, reported_sound, waiting_sound, entering_sound}
@@ -18,7 +18,7 @@ use Rattle.std.proofs.lemmas.Option.{cond_some}
 
 -- ---- the writer's events
 
-released_some : (s : Progress) (g : ℕ) (need : Option ℕ) (t : Progress) → IsSound s → released s g need ≡ Some t → IsSound t
+released_some : (s : Progress) (g : ℕ) (need : Option ℕ) (t : Progress) → IsSound s → progress_released s g need ≡ Some t → IsSound t
 released_some s g None t sound e = absurd (cc)
 released_some s g (Some need) t sound e =
     let kept : IsSound (record s { needs = _ }) = sound_with (record s { needs = _ }) sound.invariant (is_numbered s sound) in

@@ -5,7 +5,7 @@ use Rattle.prgr_core.specs.declared.watcher.Delay.{Delay}
 use Rattle.prgr_core.specs.declared.watcher.Watcher.{Watcher}
 use Rattle.prgr_core.specs.declared.progress.Progress.{Progress}
 use Rattle.prgr_core.specs.declared.event.PrgrEvent.TheVariants.{WatchLoad, WatchAdd, WatchRoot, WatchSub}
-use Rattle.prgr_core.specs.Watchers.{delay_numbered, other_delay, holds, holders, may_look, may_add, is_claimed, may_leave, counter_watched, delay_added, root_watched, delay_dropped}
+use Rattle.prgr_core.specs.Watchers.{delay_numbered, other_delay, holds_delay, holders, may_look, may_add, is_claimed, may_leave, counter_watched, delay_added, root_watched, delay_dropped}
 use Rattle.prgr_core.specs.Machine.{machine_of}
 use Rattle.prgr_core.specs.Step.{with_watcher, delay_count, after, raised, lowered, IsSound}
 use Rattle.prgr_core.proofs.Delays.{hold_set, hold_kept, holders_gain, holders_lose, holders_keep, is_held, counted_after, counted_still}
@@ -17,7 +17,7 @@ use Rattle.std.proofs.lemmas.Bool.{and_parts}
 use Rattle.std.proofs.lemmas.Option.{cond_some}
 
 -- a watcher that holds what the one before held may stand in its place
-held_still_sound : (s : Progress) → IsSound s → (k : ℕ) (a b : Watcher) → slice_get s.watchers k ≡ Some a → b.number ≡ a.number → ((d : Delay) → holds d b ≡ holds d a) → WatcherFits (machine_of s) b → IsSound (with_watcher s k b)
+held_still_sound : (s : Progress) → IsSound s → (k : ℕ) (a b : Watcher) → slice_get s.watchers k ≡ Some a → b.number ≡ a.number → ((d : Delay) → holds_delay d b ≡ holds_delay d a) → WatcherFits (machine_of s) b → IsSound (with_watcher s k b)
 held_still_sound s sound k a b at same held fits =
     watcher_sound s sound k a b s.delay_even s.delay_odd at same
     (counted_still s.delay_even s.delay_odd s.watchers (slice_set s.watchers k b) sound.invariant.delays_counted (λ d. holders_keep d s.watchers k a b at (held d)))
@@ -59,10 +59,10 @@ pub watch_left_sound : (s : Progress) → IsSound s → (k which : ℕ) (t : Pro
 watch_left_sound s sound k which t e =
     let found = and_then_some _ _ t e in
     let a = found.0 in
-    let named = and_then_some (λ delay. if may_leave a.phase && holds delay a then Some (lowered s k a delay) else None) (delay_numbered which) t found.2 in
+    let named = and_then_some (λ delay. if may_leave a.phase && holds_delay delay a then Some (lowered s k a delay) else None) (delay_numbered which) t found.2 in
     let d = named.0 in
-    let made = cond_some (may_leave a.phase && holds d a) (lowered s k a d) t named.2 in
-    let tests = and_parts (may_leave a.phase) (holds d a) made.0 in
+    let made = cond_some (may_leave a.phase && holds_delay d a) (lowered s k a d) t named.2 in
+    let tests = and_parts (may_leave a.phase) (holds_delay d a) made.0 in
     let b = delay_dropped d a in
     let less = holders_lose d s.watchers k a b found.1 tests.1 (hold_set d false a) in
     let others = holders_keep (other_delay d) s.watchers k a b found.1 (hold_kept d false a) in
@@ -72,7 +72,7 @@ watch_left_sound s sound k which t e =
     subst IsSound made.1 (watcher_sound s sound k a b _ _ found.1 refl counted fits)
 
 -- a count that a watcher of a sound state holds is above 0
-pub held_count : (s : Progress) → IsSound s → (k : ℕ) (a : Watcher) → Some a ≡ slice_get s.watchers k → (d : Delay) → holds d a ≡ true → 1 ≤ delay_count s d
+pub held_count : (s : Progress) → IsSound s → (k : ℕ) (a : Watcher) → Some a ≡ slice_get s.watchers k → (d : Delay) → holds_delay d a ≡ true → 1 ≤ delay_count s d
 held_count s sound k a at d held =
     let some = is_held d s.watchers k a (sym at) held in
     let counted : delay_count s d ≡ holders d s.watchers = sound.invariant.delays_counted d in

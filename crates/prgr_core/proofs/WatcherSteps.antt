@@ -6,7 +6,7 @@ use Rattle.prgr_core.specs.declared.watcher.Delay.TheVariants.{Even, Odd}
 use Rattle.prgr_core.specs.declared.watcher.Phase.{Phase}
 use Rattle.prgr_core.specs.declared.watcher.Phase.TheVariants.{Idle, Loaded, Added, Moved, Both, Claimed, Leaving}
 use Rattle.prgr_core.specs.declared.watcher.Watcher.{Watcher}
-use Rattle.prgr_core.specs.Watchers.{delay_of, other_delay, of_delay, holds, HasWatched, HasClaim, IsClaimed, HoldsNone, HoldsBoth, HoldsAlone, HoldsIn, may_add, is_claimed, phase_seeing, counter_watched, phase_holding, delay_added, root_watched, delay_dropped}
+use Rattle.prgr_core.specs.Watchers.{delay_of, other_delay, of_delay, holds_delay, HasWatched, HasClaim, IsClaimed, HoldsNone, HoldsBoth, HoldsAlone, HoldsIn, may_add, is_claimed, phase_seeing, counter_watched, phase_holding, delay_added, root_watched, delay_dropped}
 use Rattle.prgr_core.specs.Invariant.{WatcherInvariant}
 use Rattle.prgr_core.proofs.Parts.{if_each}
 use Rattle.prgr_core.proofs.Delays.{same_delay, different_delay}
@@ -105,8 +105,8 @@ holds_no_more Even even odd other = (refl, other)
 holds_no_more Odd even odd other = (other, refl)
 
 -- whoever has lowered a count is leaving, or idle where it holds no other
-dropped_phase : (P : Phase → Type 0) (d : Delay) (w : Watcher) → P Leaving → (holds (other_delay d) w ≡ false → P Idle) → P (delay_dropped d w).phase
-dropped_phase P d w leaving idle = if_each P (holds (other_delay d) w) Leaving Idle (λ _. leaving) idle
+dropped_phase : (P : Phase → Type 0) (d : Delay) (w : Watcher) → P Leaving → (holds_delay (other_delay d) w ≡ false → P Idle) → P (delay_dropped d w).phase
+dropped_phase P d w leaving idle = if_each P (holds_delay (other_delay d) w) Leaving Idle (λ _. leaving) idle
 
 -- whoever has lowered a count has no claim
 pub dropped_claim : (d : Delay) (w : Watcher) (c : ℕ) → HasClaim (delay_dropped d w).phase c → ⊥

@@ -41,25 +41,25 @@ cut_at c [] = None
 cut_at c (b ∷ bs) = if b == c then Some ([], bs) else option_map (with_first b) (cut_at c bs)
 
 -- the lines that end with a line feed, and the bytes behind the last of them
-pub record Lines : Type 0 where
+pub record LinesOfEvents : Type 0 where
   pub ended : List (List ℕ)
   pub tail : List ℕ
 
 -- these ended lines, and these bytes behind them
-abbrev pub lines : List (List ℕ) → List ℕ → Lines
-lines ended tail = record { ended = ended; tail = tail }
+abbrev pub ended_lines : List (List ℕ) → List ℕ → LinesOfEvents
+ended_lines ended tail = record { ended = ended; tail = tail }
 
 -- with this byte at the front
-abbrev pub before_lines : ℕ → List (List ℕ) → List ℕ → Lines
-before_lines b [] tail = lines [] (b ∷ tail)
-before_lines b (line ∷ others) tail = lines ((b ∷ line) ∷ others) tail
+abbrev pub before_lines : ℕ → List (List ℕ) → List ℕ → LinesOfEvents
+before_lines b [] tail = ended_lines [] (b ∷ tail)
+before_lines b (line ∷ others) tail = ended_lines ((b ∷ line) ∷ others) tail
 
 -- the lines of a text
-abbrev pub lines_of : List ℕ → Lines
-lines_of [] = lines [] []
-lines_of (b ∷ bs) =
-    if b == line_feed then lines ([] ∷ (lines_of bs).ended) (lines_of bs).tail
-    else before_lines b (lines_of bs).ended (lines_of bs).tail
+abbrev pub event_lines_of : List ℕ → LinesOfEvents
+event_lines_of [] = ended_lines [] []
+event_lines_of (b ∷ bs) =
+    if b == line_feed then ended_lines ([] ∷ (event_lines_of bs).ended) (event_lines_of bs).tail
+    else before_lines b (event_lines_of bs).ended (event_lines_of bs).tail
 
 -- ---- numbers
 
@@ -74,13 +74,13 @@ number_on n [] = Some n
 number_on n (c ∷ cs) = option_and_then (λ m. number_on m cs) (with_digit n c)
 
 -- the number whose decimal text this is
-abbrev pub number_of : List ℕ → Option ℕ
-number_of [] = None
-number_of (c ∷ cs) = if is_ascii_digit c then number_on (c - 48) cs else None
+abbrev pub event_number : List ℕ → Option ℕ
+event_number [] = None
+event_number (c ∷ cs) = if is_ascii_digit c then number_on (c - 48) cs else None
 
 -- the number, where it is one of so many from 0
 abbrev pub number_below : ℕ → List ℕ → Option ℕ
-number_below count text = option_and_then (λ n. if nat_lt n count then Some n else None) (number_of text)
+number_below count text = option_and_then (λ n. if nat_lt n count then Some n else None) (event_number text)
 
 -- two numbers, from the texts before and behind a space
 abbrev pub numbers_by : ℕ → ℕ → Option (List ℕ × List ℕ) → Option (ℕ × ℕ)
@@ -109,7 +109,7 @@ by_word (row ∷ rows) word m = if bytes_eq word row.0 then Some (row.1 m) else 
 -- the event of a word and what follows it, where there are so many members and watchers
 abbrev pub worded_event : ℕ → ℕ → List ℕ → List ℕ → Option PrgrEvent
 worded_event members watchers word rest =
-    if bytes_eq word (codes "release") then option_map (λ g. Release g) (number_of rest)
+    if bytes_eq word (codes "release") then option_map (λ g. Release g) (event_number rest)
     else (if bytes_eq word (codes "scan") then option_map (λ p. Scan p.0 p.1) (numbers_below members members rest)
     else (if bytes_eq word (codes "watch_load") then option_map (λ w. WatchLoad w) (number_below watchers rest)
     else (if bytes_eq word (codes "watch_add") then option_map (λ p. WatchAdd p.0 p.1) (numbers_below watchers DELAY_COUNTS rest)
@@ -133,7 +133,7 @@ abbrev pub count_by : List ℕ → ℕ → ℕ → Option (List ℕ × List ℕ)
 count_by word least most None = None
 count_by word least most (Some p) =
     if bytes_eq p.0 word
-    then option_and_then (λ n. if nat_le least n && nat_le n most then Some n else None) (number_of p.1)
+    then option_and_then (λ n. if nat_le least n && nat_le n most then Some n else None) (event_number p.1)
     else None
 
 -- ---- the text
@@ -190,7 +190,7 @@ list_on members watchers number events (line ∷ others) tail =
 
 -- the events from the fourth line on
 abbrev pub list_at : ℕ → ℕ → List ℕ → Result (List PrgrEvent) ℕ
-list_at members watchers text = list_on members watchers 4 [] (lines_of text).ended (lines_of text).tail
+list_at members watchers text = list_on members watchers 4 [] (event_lines_of text).ended (event_lines_of text).tail
 
 -- the whole text, or the first line of another form
 abbrev pub reading : List ℕ → Result Events ℕ

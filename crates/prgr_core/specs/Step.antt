@@ -21,7 +21,7 @@ use Rattle.prgr_core.specs.declared.fault.ReplayFault.{ReplayFault}
 use Rattle.prgr_core.specs.declared.fault.ReplayFault.TheVariants as replays
 use Rattle.prgr_core.specs.Needs.{need_of, with_need, without_need}
 use Rattle.prgr_core.specs.Members.{is_waiting, is_value, have_scanned_all, is_done, no_scans, counter_loaded, root_loaded, confirmed, leading, following, with_scanned, leading_with, waiting, entering}
-use Rattle.prgr_core.specs.Watchers.{delay_of, delay_numbered, of_delay, holds, may_look, may_add, is_claimed, may_leave, counter_watched, delay_added, root_watched, delay_dropped}
+use Rattle.prgr_core.specs.Watchers.{delay_of, delay_numbered, of_delay, holds_delay, may_look, may_add, is_claimed, may_leave, counter_watched, delay_added, root_watched, delay_dropped}
 use Rattle.prgr_core.specs.Machine.{machine_of}
 use Rattle.prgr_core.specs.Invariant.{ProgressInvariant}
 
@@ -129,9 +129,9 @@ abbrev pub with_pair : Progress → Progress
 with_pair s = record s { retired = s.retired ++ (record { generation = s.generation; need = s.counter + 2 }) ∷ [] }
 
 -- a retirement leaves once the counter has reached its need
-abbrev pub released : Progress → ℕ → Option ℕ → Option Progress
-released s generation None = None
-released s generation (Some need) =
+abbrev pub progress_released : Progress → ℕ → Option ℕ → Option Progress
+progress_released s generation None = None
+progress_released s generation (Some need) =
     if nat_le need s.counter then Some (record s { needs = without_need s.needs generation }) else None
 
 -- the watcher raises the count of this delay counter
@@ -158,11 +158,11 @@ after s (Wait k) = by_member s k (λ member. if is_value member.word && follows 
 after s (Enter k) = by_member s k (λ member. if is_waiting member.word then Some (with_member s k (entering member)) else None)
 after s Publish = Some (record s { generation = s.generation + 1 })
 after s Retire = if nat_lt 0 s.generation && is_none (need_of s.needs s.generation) then Some (with_retirement s) else None
-after s (Release g) = released s g (need_of s.needs g)
+after s (Release g) = progress_released s g (need_of s.needs g)
 after s (WatchLoad w) = by_watcher s w (λ watcher. if may_look watcher.phase then Some (with_watcher s w (counter_watched s.counter watcher)) else None)
 after s (WatchAdd w which) = by_delay s w which (λ watcher delay. if may_add watcher.phase delay then Some (raised s w watcher delay) else None)
 after s (WatchRoot w) = by_watcher s w (λ watcher. if is_claimed watcher.phase then Some (with_watcher s w (root_watched s.generation watcher)) else None)
-after s (WatchSub w which) = by_delay s w which (λ watcher delay. if may_leave watcher.phase && holds delay watcher then Some (lowered s w watcher delay) else None)
+after s (WatchSub w which) = by_delay s w which (λ watcher delay. if may_leave watcher.phase && holds_delay delay watcher then Some (lowered s w watcher delay) else None)
 
 -- where memory may be refused: a retirement is kept, and no generation follows the last of a word
 abbrev pub LacksMemory : Progress → PrgrEvent → Type 0
@@ -213,8 +213,8 @@ opening_watchers zero = []
 opening_watchers (suc n) = opening_watchers n ++ opening_watcher n ∷ []
 
 -- the state in which a list of events begins, of so many members and watchers
-abbrev pub opening : ℕ → ℕ → Progress
-opening members watchers = record {
+abbrev pub progress_opening : ℕ → ℕ → Progress
+progress_opening members watchers = record {
   counter = OPENING_COUNTER;
   generation = 0;
   leader = None;

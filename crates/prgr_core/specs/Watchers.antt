@@ -40,12 +40,12 @@ of_delay Even even odd = even
 of_delay Odd even odd = odd
 
 -- it holds the count of this delay counter
-abbrev pub holds : Delay → Watcher → Bool
-holds delay watcher = of_delay delay watcher.holds_even watcher.holds_odd
+abbrev pub holds_delay : Delay → Watcher → Bool
+holds_delay delay watcher = of_delay delay watcher.holds_even watcher.holds_odd
 
 -- how many of them hold the count of this delay counter
 abbrev pub holders : Delay → List Watcher → ℕ
-holders delay watchers = count_by (holds delay) watchers
+holders delay watchers = count_by (holds_delay delay) watchers
 
 -- ---- facts
 
@@ -129,8 +129,8 @@ abbrev pub counter_watched : ℕ → Watcher → Watcher
 counter_watched counter watcher = record watcher { phase = phase_seeing counter watcher.phase }
 
 -- it holds the count of this delay counter, or does not, as is said
-abbrev pub with_hold : Delay → Bool → Watcher → Watcher
-with_hold delay held watcher = record watcher {
+abbrev pub with_held_count : Delay → Bool → Watcher → Watcher
+with_held_count delay held watcher = record watcher {
   holds_even = of_delay delay held watcher.holds_even;
   holds_odd = of_delay delay watcher.holds_odd held;
 }
@@ -145,7 +145,7 @@ phase_holding phase = phase
 
 -- it has raised this count
 abbrev pub delay_added : Delay → Watcher → Watcher
-delay_added delay watcher = record (with_hold delay true watcher) { phase = phase_holding watcher.phase }
+delay_added delay watcher = record (with_held_count delay true watcher) { phase = phase_holding watcher.phase }
 
 -- it has loaded the root in its claim, and holds this generation
 abbrev pub root_watched : ℕ → Watcher → Watcher
@@ -154,4 +154,4 @@ root_watched generation watcher = record watcher { generation = Some generation 
 -- it has lowered this count, and its claim, if it had one, is over
 abbrev pub delay_dropped : Delay → Watcher → Watcher
 delay_dropped delay watcher =
-    record (with_hold delay false watcher) { phase = if holds (other_delay delay) watcher then Leaving else Idle; generation = None }
+    record (with_held_count delay false watcher) { phase = if holds_delay (other_delay delay) watcher then Leaving else Idle; generation = None }

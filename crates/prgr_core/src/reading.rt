@@ -4,7 +4,7 @@ ghost use Rattle.std.specs.Prelude.{◌≡◌, IfOk, IfErr, Ok, option_map};
 ghost use Rattle.prgr_core.specs.declared.event.Events.{Events as EventsValue};
 ghost use Rattle.prgr_core.specs.EventText.{EventText};
 ghost use Rattle.prgr_core.specs.Faults.{IsFaultOf};
-ghost use Rattle.prgr_core.specs.Reading.{Gives, Fails, cut_at, with_digit, number_of, number_below, numbers_below, member_words, by_word, worded_event, event_of, count_by, line_at, expected, count_at, event_at, list_at, reading};
+ghost use Rattle.prgr_core.specs.Reading.{Gives, Fails, cut_at, with_digit, event_number, number_below, numbers_below, member_words, by_word, worded_event, event_of, count_by, line_at, expected, count_at, event_at, list_at, reading};
 
 use crate::event::{Events, PrgrEvent};
 use crate::fault::EventFault;
@@ -38,7 +38,7 @@ fn with_digit(number: u64, byte: u8) -> Option<u64>
 
 /// The number whose decimal text this is: no sign, no leading zeros, below 2^64.
 fn number_of(text: &[u8]) -> Option<u64>
-    ensures { result ≡ number_of text.now }
+    ensures { result ≡ event_number text.now }
 {
     let (first, rest) = text.split_first()?;
     if !first.is_ascii_digit() {

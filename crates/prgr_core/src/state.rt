@@ -3,7 +3,7 @@
 ghost use Rattle.std.specs.Prelude.{◌≡◌, ◌≤◌, ◌↔◌, IsErrOf, IfOk, IfErr, OnOk, OnErr, Some, None};
 ghost use Rattle.prgr_core.specs.declared.fault.StepFault.TheVariants.{NotEnabled};
 ghost use Rattle.prgr_core.specs.declared.fault.StepFault.TheVariants as steps;
-ghost use Rattle.prgr_core.specs.Step.{LacksMemory, after, after_all, opening, opening_members, opening_watchers, StopsBy, IsSound, with_pair};
+ghost use Rattle.prgr_core.specs.Step.{LacksMemory, after, after_all, progress_opening, opening_members, opening_watchers, StopsBy, IsSound, with_pair};
 
 use crate::event::PrgrEvent;
 use crate::fault::{NoMemory, ReplayFault, StepFault};
@@ -38,7 +38,7 @@ impl PrgrState {
         requires one { 1 ≤ members }
         requires few { members ≤ 16 }
         requires watched { watchers ≤ 4 }
-        ensures ok { IfOk result (λ state. state ≡ opening members watchers) }
+        ensures ok { IfOk result (λ state. state ≡ progress_opening members watchers) }
         ensures sound { IfOk result (λ state. IsSound state) }
     {
         let members = opening_members(alloc, members)?;

@@ -17,7 +17,7 @@ use Rattle.shared_words.specs.declared.opening.Opening.{Opening}
 use Rattle.shared_words.specs.declared.seats.Writer as writers
 use Rattle.shared_words.specs.declared.view.WriterView.{WriterView}
 use Rattle.shared_words.specs.declared.view.View.TheVariants.{Writer}
-use Rattle.shared_words.specs.Seats.{Place, writer_of}
+use Rattle.shared_words.specs.Seats.{SeatPlace, writer_of}
 use Rattle.shared_words.specs.Making.{IsHanding, writer_handing}
 use Rattle.shared_words.specs.Publishing.{MayPublish, IsRootOf, kept_next, with_next}
 use Rattle.progress_words.specs.Tokens.{written_by, IsWriterOf}
@@ -105,7 +105,7 @@ may_publish_empty Served w served h =
     }
 
 -- what the writer has published then
-pub written_next : (seat : Place) (w : WriterView) → seat.me.0 ≡ Writer w → writer_of seat.me.0 ≡ w
+pub written_next : (seat : SeatPlace) (w : WriterView) → seat.me.0 ≡ Writer w → writer_of seat.me.0 ≡ w
 written_next seat w is = ap writer_of is
 
 next_empty : (w : WriterView) → IsEmpty w → IsEmpty (with_next opening_published w)

@@ -14,7 +14,7 @@ use Rattle.marks.specs.Names.{IsAtRest}
 use Rattle.shared_words.specs.Processes.{process_of}
 use Rattle.shared_words.specs.Making.{AreMembersBegun}
 use Rattle.progress_words.specs.Tokens.{view_of, IsMemberOf, IsSameMember}
-use Rattle.progress_words.specs.Reports.{IsAwake, Reported}
+use Rattle.progress_words.specs.Reports.{IsAwake, HoldsReported}
 use Rattle.progress_words.specs.Leads.{IsLeader, held_by}
 use Rattle.progress_tests.specs.Running.{IsReady, HasReported}
 use Rattle.progress_tests.proofs.Begun.{empty_rests}
@@ -53,7 +53,7 @@ follows_on counter Follows is = is
 follows_on counter (Leads scans) is = is
 
 -- who has reported may take the lead, if it might before
-pub reported_ready : (Served : Published → Type 0) (table : TableId) (old new : tokens.Member) (generation : ℕ) → IsReady table old → IsMemberOf table new → IsAwake (view_of new) → Reported Served (view_of old) (view_of new) generation → IsReady table new
+pub reported_ready : (Served : Published → Type 0) (table : TableId) (old new : tokens.Member) (generation : ℕ) → IsReady table old → IsMemberOf table new → IsAwake (view_of new) → HoldsReported Served (view_of old) (view_of new) generation → IsReady table new
 reported_ready Served table old new generation ready of awake told = record {
   of = of;
   may = record {

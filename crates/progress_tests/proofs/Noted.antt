@@ -7,7 +7,7 @@ use Rattle.prgr_core.specs.declared.member.Member as machines
 use Rattle.area_core.specs.declared.readers.Slots.TheVariants.{OfMember}
 use Rattle.area_core.specs.declared.table.Published.{Published}
 use Rattle.area_core.specs.Blocks.{RootFits}
-use Rattle.area_core.specs.Readers.{is_of}
+use Rattle.area_core.specs.Readers.{is_slot_of}
 use Rattle.area_core.specs.Step.{opening_published}
 use Rattle.shared_words.specs.declared.opening.Opening.{Opening}
 use Rattle.shared_words.specs.declared.seats.Member as tokens
@@ -53,10 +53,10 @@ pub note_own : (table : TableId) (process : ℕ) (token : notes.Note) → IsNote
 note_own table process token is = record { process = refl; seat = is.seat }
 
 -- process 0 is one of the first of two members
-pub own_process : (table : TableId) (opening : Opening) (token : tokens.Member) (note : notes.Note) → IsMemberOf table token → view_of token ≡ member_begun 0 → opening.members ≡ 2 → IsNoteOf table 0 note → IsTrue (is_of (OfMember token.number opening.members) note.process)
+pub own_process : (table : TableId) (opening : Opening) (token : tokens.Member) (note : notes.Note) → IsMemberOf table token → view_of token ≡ member_begun 0 → opening.members ≡ 2 → IsNoteOf table 0 note → IsTrue (is_slot_of (OfMember token.number opening.members) note.process)
 own_process table opening token note of view two is =
     let number : token.number ≡ 0 = sym of.numbered ∙ ap (λ (m : MemberView). m.member.number) view in
-    subst (λ (z : ℕ × ℕ × ℕ). IsTrue (is_of (OfMember z.0 z.1) z.2)) (λ i. (sym number i, sym two i, sym is.process i)) refl
+    subst (λ (z : ℕ × ℕ × ℕ). IsTrue (is_slot_of (OfMember z.0 z.1) z.2)) (λ i. (sym number i, sym two i, sym is.process i)) refl
 
 abbrev AreOpening : List Published → Type 0
 AreOpening xs = (g : ℕ) (p : Published) → slice_get xs g ≡ Some p → p ≡ opening_published

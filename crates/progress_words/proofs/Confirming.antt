@@ -11,10 +11,10 @@ use Rattle.shared_words.specs.declared.view.View.{View}
 use Rattle.shared_words.specs.declared.view.View.TheVariants.{Member}
 use Rattle.shared_words.specs.Seats.{member_of, IsRooted}
 use Rattle.shared_words.specs.Processes.{held_by_view, AreAtRest}
-use Rattle.shared_words.specs.Views.{newest, published_at, seen}
+use Rattle.shared_words.specs.Views.{newest_number, published_at, seen_generations}
 use Rattle.shared_words.specs.Kinds.{IsSameIn, MayLoadRoot, counter_found, root_found, RootLoaded, value_confirmed, now_entering}
 use Rattle.shared_words.proofs.Rooted.{rooted_by_load}
-use Rattle.progress_words.specs.Reports.{IsAwake, Reported}
+use Rattle.progress_words.specs.Reports.{IsAwake, HoldsReported}
 use Rattle.progress_words.specs.Leads.{IsLeader}
 use Rattle.progress_words.specs.Advances.{with_counter}
 
@@ -26,11 +26,11 @@ value_after counter range =
     λ i. above i && below i
 
 -- who has reported is awake
-pub awake_now : (Served : Published → Type 0) (old new : MemberView) (generation : ℕ) → Reported Served old new generation → IsAwake new
+pub awake_now : (Served : Published → Type 0) (old new : MemberView) (generation : ℕ) → HoldsReported Served old new generation → IsAwake new
 awake_now Served old new generation told = subst IsAwake (sym told.view) (value_after told.counter told.range)
 
 -- and leads where it led
-pub leads_on : (Served : Published → Type 0) (old new : MemberView) (generation : ℕ) → Reported Served old new generation → IsLeader old → IsLeader new
+pub leads_on : (Served : Published → Type 0) (old new : MemberView) (generation : ℕ) → HoldsReported Served old new generation → IsLeader old → IsLeader new
 leads_on Served old new generation told h = record {
   awake = awake_now Served old new generation told;
   scans = record h.scans { counter = Some told.counter };
@@ -51,24 +51,24 @@ holds_now counter generation entering range = ap (λ (b : Bool). cond (b || ente
 
 -- what a report tells, by the counter and the root that were loaded
 pub reported_now : (Served : Published → Type 0) (old : MemberView) (v w : View) (counter found generation : ℕ) (new : MemberView) → CounterInRange counter → v ≡ counter_found counter (Member old) → RootLoaded Served v w found → new ≡ value_confirmed (counter + 1) (member_of w)
-    → generation ≡ found / 32 → Reported Served old new generation
+    → generation ≡ found / 32 → HoldsReported Served old new generation
 reported_now Served old v w counter found generation new range first loaded last divided =
     let told = subst (λ (x : View). RootLoaded Served x w found) first loaded in
     let root = told.root in
     let code = told.fits.code in
     let bp = told.fits.bp in
     let term = told.fits.term in
-    let here : generation ≡ newest (seen w) = omega (arith, divided, root, code, bp, term) in
+    let here : generation ≡ newest_number (seen_generations w) = omega (arith, divided, root, code, bp, term) in
     let still : w ≡ Member (member_of w) = told.view ∙ ap (λ (x : View). Member (member_of x)) (sym told.view) in
-    let known : member_of w ≡ member_of (root_found (seen w) (Member (with_counter counter old))) = ap member_of told.view in
-    subst (λ (n : MemberView). Reported Served old n generation) (sym (last ∙ ap (value_confirmed (counter + 1)) known)) (record {
+    let known : member_of w ≡ member_of (root_found (seen_generations w) (Member (with_counter counter old))) = ap member_of told.view in
+    subst (λ (n : MemberView). HoldsReported Served old n generation) (sym (last ∙ ap (value_confirmed (counter + 1)) known)) (record {
       counter = counter;
       range = range;
       learnt = told.learnt;
       some = told.some;
       newest = here;
-      holds = holds_now counter (newest (seen w)) _ range ∙ ap (λ (g : ℕ). Some g) (sym here);
-      served = subst (λ (g : ℕ). Served (published_at (seen w) g)) (sym here) told.served;
+      holds = holds_now counter (newest_number (seen_generations w)) _ range ∙ ap (λ (g : ℕ). Some g) (sym here);
+      served = subst (λ (g : ℕ). Served (published_at (seen_generations w) g)) (sym here) told.served;
       areas = told.areas;
       named = λ a named listed. subst (λ (n : MemberView). IsSameIn (held_by_view old) (held_by_view n) a) known (told.named (with_counter counter old) (member_of w) refl still a named listed);
       view = refl;

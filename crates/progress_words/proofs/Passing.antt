@@ -13,7 +13,7 @@ use Rattle.shared_words.specs.declared.view.View.TheVariants.{Writer}
 use Rattle.atomic_table.specs.Seated.{TableId}
 use Rattle.shared_words.specs.declared.seats.Writer as writers
 use Rattle.shared_words.specs.Seats.{IsSameSeat, IsWriterSeat, writer_of}
-use Rattle.shared_words.specs.Views.{newest}
+use Rattle.shared_words.specs.Views.{newest_number}
 use Rattle.shared_words.specs.Shown.{progress_of}
 use Rattle.shared_words.specs.Kinds.{IsRising, counter_kept, counter_found}
 use Rattle.shared_words.proofs.ShownMembers.{still_at}
@@ -49,11 +49,11 @@ writer_counts table opening old new counter h same generation found =
     (writer_seat_next table opening old.generation old.generation old.seat new.seat (counter_kept counter (writer_of old.seat.me.0)) h same (found ∙ ap (counter_found counter) h.view) h.published refl (omega arith))
 
 -- the value that a load of the counter takes
-pub taken_now : (old new : WriterView) (need : ℕ) → HasLoadedCounter old new → need ≡ new.counter + 2 → HasTaken new (newest old.published) need
+pub taken_now : (old new : WriterView) (need : ℕ) → HasLoadedCounter old new → need ≡ new.counter + 2 → HasTaken new (newest_number old.published) need
 taken_now old new need loaded is =
-    let last : Retirement = record { generation = newest old.published; need = loaded.counter + 2 } in
+    let last : Retirement = record { generation = newest_number old.published; need = loaded.counter + 2 } in
     let same : need ≡ loaded.counter + 2 = is ∙ ap (λ (w : WriterView). w.counter + 2) loaded.view in
-    subst (λ (z : WriterView × ℕ). HasTaken z.0 (newest old.published) z.1) (λ i. (sym loaded.view i, sym same i)) (length old.pairs, got_last old.pairs last)
+    subst (λ (z : WriterView × ℕ). HasTaken z.0 (newest_number old.published) z.1) (λ i. (sym loaded.view i, sym same i)) (length old.pairs, got_last old.pairs last)
 
 -- where the value that was taken is reached, its generation has passed
 pub passed_now : (Served : Published → Type 0) (opening : Opening) (counter : ℕ) (old new : WriterView) (need : ℕ) → new ≡ counter_kept counter old → need ≤ counter → (generation : ℕ) → HasTaken old generation need → HasPassed Served opening new generation

@@ -4,19 +4,19 @@ use Rattle.atomic_table.specs.Seated.{TableId}
 use Rattle.shared_words.specs.declared.seats.Member as tokens
 use Rattle.shared_words.specs.declared.view.MemberView.{MemberView}
 use Rattle.shared_words.specs.declared.view.View.TheVariants.{Member}
-use Rattle.shared_words.specs.Seats.{Place, IsSeatOf, IsSameSeat, IsMemberSeat, member_of}
+use Rattle.shared_words.specs.Seats.{SeatPlace, IsSeatOf, IsSameSeat, IsMemberSeat, member_of}
 use Rattle.progress_words.specs.Tokens.{view_of, IsMemberOf}
 
 -- the seat is still of this table
-pub still_of : (table : TableId) (old new : Place) → IsSeatOf table old → IsSameSeat old new → IsSeatOf table new
+pub still_of : (table : TableId) (old new : SeatPlace) → IsSeatOf table old → IsSameSeat old new → IsSeatOf table new
 still_of table old new of same = record { same_table = same.same_table ∙ of.same_table; no_slots = same.same_slots ∙ of.no_slots }
 
 -- the view of a seat that has this member's view is this
-pub view_is : (seat : Place) (m : MemberView) → seat.me.0 ≡ Member m → member_of seat.me.0 ≡ m
+pub view_is : (seat : SeatPlace) (m : MemberView) → seat.me.0 ≡ Member m → member_of seat.me.0 ≡ m
 view_is seat m at = ap member_of at
 
 -- the seat is still that of a member, whose number is the same
-pub still_seat : (table : TableId) (number : ℕ) (old new : Place) (m : MemberView) → IsMemberSeat table number old → IsSameSeat old new → new.me.0 ≡ Member m → m.member.number ≡ (member_of old.me.0).member.number → IsMemberSeat table number new
+pub still_seat : (table : TableId) (number : ℕ) (old new : SeatPlace) (m : MemberView) → IsMemberSeat table number old → IsSameSeat old new → new.me.0 ≡ Member m → m.member.number ≡ (member_of old.me.0).member.number → IsMemberSeat table number new
 still_seat table number old new m is same at numbered = record {
   few = is.few;
   of_table = still_of table old new is.of_table same;
@@ -30,7 +30,7 @@ still_token table old new m is same number at numbered =
     subst (λ (n : ℕ). IsMemberSeat table n new.seat) (sym number) (still_seat table old.number old.seat new.seat m is same at numbered)
 
 -- two steps leave the same seat
-pub same_again : (a b c : Place) → IsSameSeat a b → IsSameSeat b c → IsSameSeat a c
+pub same_again : (a b c : SeatPlace) → IsSameSeat a b → IsSameSeat b c → IsSameSeat a c
 same_again a b c first second = record {
   same_table = second.same_table ∙ first.same_table;
   same_number = second.same_number ∙ first.same_number;

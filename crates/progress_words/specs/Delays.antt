@@ -3,11 +3,11 @@
 -- the order of the steps are this project's own.
 use Rattle.std.specs.Prelude.{◌≡◌, ℕ, ◌<◌, ◌⊎◌, true, false, length, Some, IsTrue}
 use Rattle.prgr_core.specs.declared.watcher.Phase.TheVariants.{Idle, Added, Moved}
-use Rattle.prgr_core.specs.Watchers.{delay_of, other_delay, holds, may_leave, is_claimed, HoldsNone}
+use Rattle.prgr_core.specs.Watchers.{delay_of, other_delay, holds_delay, may_leave, is_claimed, HoldsNone}
 use Rattle.area_core.specs.declared.table.Published.{Published}
 use Rattle.shared_words.specs.declared.view.WatcherView.{WatcherView}
 use Rattle.shared_words.specs.declared.view.View.TheVariants.{Watcher}
-use Rattle.shared_words.specs.Views.{newest, published_at, held}
+use Rattle.shared_words.specs.Views.{newest_number, published_at, held_last}
 use Rattle.shared_words.specs.Rule.{IsBeginning, HasItsAreas}
 
 -- the watcher does not delay
@@ -30,13 +30,13 @@ pub record IsSameWatcher (old new : WatcherView) : Type 0 where
 -- the watcher has raised the delay count of this counter, which it has loaded
 pub record HasRaised (counter : ℕ) (old new : WatcherView) : Type 0 where
   pub phase : new.watcher.phase ≡ Added counter
-  pub holds : holds (delay_of counter) new.watcher ≡ true
+  pub holds : holds_delay (delay_of counter) new.watcher ≡ true
   pub same : IsSameWatcher old new
 
 -- it has found that the counter went on from this one, whose delay count it holds
 pub record HasMoved (counter : ℕ) (v : WatcherView) : Type 0 where
   pub phase : v.watcher.phase ≡ Moved (delay_of counter)
-  pub holds : holds (delay_of counter) v.watcher ≡ true
+  pub holds : holds_delay (delay_of counter) v.watcher ≡ true
 
 -- it has claimed to read, and has not loaded the root yet
 pub record HasClaimed (old new : WatcherView) : Type 0 where
@@ -50,9 +50,9 @@ pub record HasDelayed (Served : Published → Type 0) (old new : WatcherView) (g
   pub learnt : IsBeginning old.seen new.seen
   pub some : 0 < length new.seen
   -- the generation is that of the root that was loaded, the last that it has learnt of
-  pub newest : generation ≡ newest new.seen
+  pub newest : generation ≡ newest_number new.seen
   -- it may be read from now on
-  pub holds : held (Watcher new) ≡ Some generation
+  pub holds : held_last (Watcher new) ≡ Some generation
   -- the code server has made it
   pub served : Served (published_at new.seen generation)
   -- it has one area of each serial that it uses
@@ -71,6 +71,6 @@ pub record MayLower (v : WatcherView) : Type 0 where
 
 -- it does not hold the count of this number, and holds the other one where it did
 pub record HasLowered (which : ℕ) (old new : WatcherView) : Type 0 where
-  pub lowered : holds (delay_of which) new.watcher ≡ false
-  pub other : holds (other_delay (delay_of which)) new.watcher ≡ holds (other_delay (delay_of which)) old.watcher
+  pub lowered : holds_delay (delay_of which) new.watcher ≡ false
+  pub other : holds_delay (other_delay (delay_of which)) new.watcher ≡ holds_delay (other_delay (delay_of which)) old.watcher
   pub same : IsSameWatcher old new

@@ -12,7 +12,7 @@ use Rattle.area_core.specs.declared.table.Published.{Published}
 use Rattle.area_core.specs.Blocks.{Among}
 use Rattle.shared_words.specs.declared.view.MemberView.{MemberView}
 use Rattle.shared_words.specs.declared.view.View.TheVariants.{Member}
-use Rattle.shared_words.specs.Views.{newest, published_at, held}
+use Rattle.shared_words.specs.Views.{newest_number, published_at, held_last}
 use Rattle.shared_words.specs.Processes.{held_by_view, NamesArea}
 use Rattle.shared_words.specs.Kinds.{IsSameIn}
 use Rattle.shared_words.specs.Rule.{IsBeginning, HasItsAreas}
@@ -24,12 +24,12 @@ IsAwake m = IsTrue (members.is_value m.member.word)
 -- what a member knows once it has found this counter, then these generations, and has confirmed the value after that counter
 abbrev pub having_reported : ℕ → List Published → MemberView → MemberView
 having_reported counter published m = record m {
-  member = record m.member { word = counter + 1; loaded = Nothing; generation = newest published; role = role_knowing counter m.member.role };
+  member = record m.member { word = counter + 1; loaded = Nothing; generation = newest_number published; role = role_knowing counter m.member.role };
   seen = published;
 }
 
 -- the member has reported, and holds this generation
-pub record Reported (Served : Published → Type 0) (old new : MemberView) (generation : ℕ) : Type 0 where
+pub record HoldsReported (Served : Published → Type 0) (old new : MemberView) (generation : ℕ) : Type 0 where
   -- the counter that was loaded
   pub counter : ℕ
   pub range : CounterInRange counter
@@ -37,9 +37,9 @@ pub record Reported (Served : Published → Type 0) (old new : MemberView) (gene
   pub learnt : IsBeginning old.seen new.seen
   pub some : 0 < length new.seen
   -- the generation is that of the root that was loaded, the last that it has learnt of
-  pub newest : generation ≡ newest new.seen
+  pub newest : generation ≡ newest_number new.seen
   -- it may be read from now on
-  pub holds : held (Member new) ≡ Some generation
+  pub holds : held_last (Member new) ≡ Some generation
   -- the code server has made it
   pub served : Served (published_at new.seen generation)
   -- it has one area of each serial that it uses

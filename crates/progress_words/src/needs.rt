@@ -1,7 +1,7 @@
 //! The calls by which the writer waits until a generation has passed.
 
 ghost use Rattle.std.specs.Prelude.{◌≡◌, ℕ, ◌+◌, ◌≤◌, IfErr, OnOk};
-ghost use Rattle.shared_words.specs.Views.{newest};
+ghost use Rattle.shared_words.specs.Views.{newest_number};
 ghost use Rattle.progress_words.specs.Tokens.{written_by, IsWriterOf, IsSameWriter};
 ghost use Rattle.progress_words.specs.Needs.{HasLoadedCounter, HasTaken, HasPassed, IsBelow};
 
@@ -23,7 +23,7 @@ pub fn later<N: Served>(shared: &Shared<N>, writer: &mut Writer) -> u64
     ensures same { IsSameWriter writer.old writer.new }
     ensures loaded { HasLoadedCounter (written_by writer.old) (written_by writer.new) }
     ensures need { result ≡ (written_by writer.new).counter + 2 }
-    ensures taken { HasTaken (written_by writer.new) (newest (written_by writer.old).published) result }
+    ensures taken { HasTaken (written_by writer.new) (newest_number (written_by writer.old).published) result }
 {
     shared.load_counter(writer) + VALUES_AHEAD
 }

@@ -2,7 +2,7 @@
 
 ghost use Rattle.std.specs.Prelude.{◌≡◌, ◌≤◌, length, IsTrue};
 ghost use Rattle.area_core.specs.declared.readers.Slots.TheVariants.{OfMember};
-ghost use Rattle.area_core.specs.Readers.{is_of};
+ghost use Rattle.area_core.specs.Readers.{is_slot_of};
 ghost use Rattle.shared_words.specs.Notes.{MaySplitNote, with_note, note_begun, note_joined};
 ghost use Rattle.progress_words.specs.Tokens.{view_of, written_by, noted_by, IsMemberOf, IsSameMember, IsWriterOf, IsSameWriter, IsNoteOf};
 
@@ -28,7 +28,7 @@ pub fn note<N: Served>(shared: &Shared<N>, writer: &mut Writer, process: u32) ->
 pub fn learn<N: Served>(shared: &Shared<N>, member: &mut Member, note: Note)
     requires token { IsMemberOf shared.now.table.shared.table_id member.old }
     requires note { IsNoteOf shared.now.table.shared.table_id note.process note }
-    requires own { IsTrue (is_of (OfMember member.old.number shared.now.table.shared.key.members) note.process) }
+    requires own { IsTrue (is_slot_of (OfMember member.old.number shared.now.table.shared.key.members) note.process) }
     ensures token { IsMemberOf shared.now.table.shared.table_id member.new }
     ensures same { IsSameMember member.old member.new }
     ensures root { member.new.root ≡ member.old.root }

@@ -6,7 +6,7 @@ ghost use Rattle.shared_words.specs.Processes.{AreAtRest};
 ghost use Rattle.shared_words.specs.Seats.{IsRooted};
 ghost use Rattle.shared_words.specs.Kinds.{MayWait, MayEnter, now_waiting, now_entering};
 ghost use Rattle.progress_words.specs.Tokens.{view_of, IsMemberOf, IsSameMember};
-ghost use Rattle.progress_words.specs.Reports.{IsAwake, Reported};
+ghost use Rattle.progress_words.specs.Reports.{IsAwake, HoldsReported};
 ghost use Rattle.progress_words.specs.Leads.{IsLeader};
 
 use shared_words::{Member, Served, Shared};
@@ -22,7 +22,7 @@ fn confirm_newest<N: Served>(shared: &Shared<N>, member: &mut Member) -> u64
     requires rest { IsAwake (view_of member.old) → AreAtRest (view_of member.old) }
     ensures token { IsMemberOf shared.now.table.shared.table_id member.new }
     ensures same { IsSameMember member.old member.new }
-    ensures reported { Reported N.served (view_of member.old) (view_of member.new) result }
+    ensures reported { HoldsReported N.served (view_of member.old) (view_of member.new) result }
     ensures rooted { IsRooted member.new.root (view_of member.new) }
 {
     let counter = shared.load_counter(member);
@@ -43,7 +43,7 @@ pub fn report<N: Served>(shared: &Shared<N>, member: &mut Member) -> u64
     requires rest { AreAtRest (view_of member.old) }
     ensures token { IsMemberOf shared.now.table.shared.table_id member.new }
     ensures same { IsSameMember member.old member.new }
-    ensures reported { Reported N.served (view_of member.old) (view_of member.new) result }
+    ensures reported { HoldsReported N.served (view_of member.old) (view_of member.new) result }
     ensures rooted { IsRooted member.new.root (view_of member.new) }
     ensures awake { IsAwake (view_of member.new) }
     ensures leads { IsLeader (view_of member.old) → IsLeader (view_of member.new) }
@@ -71,7 +71,7 @@ pub fn wake<N: Served>(shared: &Shared<N>, member: &mut Member) -> u64
     requires waits { MayEnter (view_of member.old) }
     ensures token { IsMemberOf shared.now.table.shared.table_id member.new }
     ensures same { IsSameMember member.old member.new }
-    ensures reported { Reported N.served (now_entering (view_of member.old)) (view_of member.new) result }
+    ensures reported { HoldsReported N.served (now_entering (view_of member.old)) (view_of member.new) result }
     ensures rooted { IsRooted member.new.root (view_of member.new) }
     ensures awake { IsAwake (view_of member.new) }
 {

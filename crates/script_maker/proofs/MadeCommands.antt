@@ -10,7 +10,7 @@ use Rattle.mod_core.specs.declared.code.Module.{Module}
 use Rattle.server_core.specs.CommandTable.{text_of}
 use Rattle.script_maker.specs.declared.subject.Subject.{Subject}
 use Rattle.script_maker.specs.Generator.{number_after, picked}
-use Rattle.script_maker.specs.MadeScript.{command_at, command_of, command_of_kind, made_commands, made_names, spawns_at, subject_of, version_at}
+use Rattle.script_maker.specs.MadeScript.{command_at, made_command, command_of_kind, made_commands, made_names, spawns_at, subject_of, version_at}
 use Rattle.script_maker.proofs.MadeModules.{IsSubject, is_integer}
 
 -- what holds of both holds of the one that is chosen
@@ -41,7 +41,7 @@ kind_made texts about place kind is given below =
     (record { module_named = is.module_named; name_named = lit< tt; few = lit≤ tt }))))))
 
 -- each command can be made
-command_made : (texts : List Module) (about : Subject) (place number : ℕ) → IsSubject about → AreGiven texts about → place < 4000 → IsCmdOf made_names texts (command_of about place number)
+command_made : (texts : List Module) (about : Subject) (place number : ℕ) → IsSubject about → AreGiven texts about → place < 4000 → IsCmdOf made_names texts (made_command about place number)
 command_made texts about place number is given below =
     let P = IsCmdOf made_names texts in
     either P (place == 0) _ _ (record { some = lit< tt; given = (given 0 (lit< tt), tt) })
@@ -79,7 +79,7 @@ kind_makes about place kind =
 spawn_stands : (place : ℕ) → spawns_at place ≡ true → (place < 256) × (place % 8 ≡ 7)
 spawn_stands place told = let parts = and_parts (nat_lt place 256) (place % 8 == 7) told in (ltb-true place 256 parts.0, grind (arith, parts.1))
 
-command_makes : (about : Subject) (place number : ℕ) → Makes place (command_of about place number)
+command_makes : (about : Subject) (place number : ℕ) → Makes place (made_command about place number)
 command_makes about place number =
     let P = Makes place in
     either P (place == 0) _ _ (makes_none refl)

@@ -86,34 +86,34 @@ abbrev pub spawns_at : ℕ → Bool
 spawns_at place = nat_lt place SPAWNING && place % PERIOD == 7
 
 -- the load of a version
-abbrev pub load_of : Subject → ℕ → ScriptCmd
-load_of about version = Load ((record { name = about.«module»; version = version }) ∷ [])
+abbrev pub made_load : Subject → ℕ → ScriptCmd
+made_load about version = Load ((record { name = about.«module»; version = version }) ∷ [])
 
 -- the put of a place and a version
-abbrev pub put_of : Subject → ℕ → ℕ → ScriptCmd
-put_of about place version = Put about.key (Tuple (integer_leaf (pos place) ∷ integer_leaf (pos version) ∷ []))
+abbrev pub put_by_maker : Subject → ℕ → ℕ → ScriptCmd
+put_by_maker about place version = Put about.key (Tuple (integer_leaf (pos place) ∷ integer_leaf (pos version) ∷ []))
 
 -- the command of a kind at a place
 abbrev pub command_of_kind : Subject → ℕ → ℕ → ScriptCmd
 command_of_kind about place kind =
-    if kind == 0 then load_of about (version_at place)
+    if kind == 0 then made_load about (version_at place)
     else if kind == 1 then SoftPurge about.«module»
     else if kind == 2 then CheckOld about.«module»
-    else if kind == 3 then put_of about place (version_at place)
+    else if kind == 3 then put_by_maker about place (version_at place)
     else if kind == 4 then Erase about.key
     else if kind == 5 then Trace (version_of about) true
     else Trace (version_of about) false
 
 -- the command at a place, counted from 0, where the generator has this number: the first case that holds
-abbrev pub command_of : Subject → ℕ → ℕ → ScriptCmd
-command_of about place number =
-    if place == 0 then load_of about 1
+abbrev pub made_command : Subject → ℕ → ℕ → ScriptCmd
+made_command about place number =
+    if place == 0 then made_load about 1
     else if spawns_at place then Spawn (main_of about) []
     else command_of_kind about place (picked number)
 
 -- the command of a loader at a place: the generator makes one step before each command
 abbrev pub command_at : ℕ → ℕ → ℕ → ScriptCmd
-command_at seed loader place = command_of (subject_of loader) place (number_after seed loader (place + 1))
+command_at seed loader place = made_command (subject_of loader) place (number_after seed loader (place + 1))
 
 -- so many commands of a loader
 abbrev pub made_commands : ℕ → ℕ → ℕ → List ScriptCmd

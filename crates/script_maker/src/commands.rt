@@ -2,7 +2,7 @@
 
 ghost use Rattle.std.specs.Prelude.{◌≡◌, IfOk};
 ghost use Rattle.script_core.specs.declared.script.ScriptCmd.TheVariants.{Trace};
-ghost use Rattle.script_maker.specs.MadeScript.{command_of, command_of_kind, load_of, made_commands, put_of, spawns_at, version_of};
+ghost use Rattle.script_maker.specs.MadeScript.{made_command, command_of_kind, made_load, made_commands, put_by_maker, spawns_at, version_of};
 
 use crate::generator::{first_number, next_number, picked};
 use crate::subject::Subject;
@@ -18,7 +18,7 @@ pub const SPAWNING: u32 = 256;
 pub const PERIOD: u32 = 8;
 
 fn load(alloc: Global, about: Subject, version: u32) -> Result<ScriptCmd, NoMemory>
-    ensures { IfOk result (λ command. command ≡ load_of about version) }
+    ensures { IfOk result (λ command. command ≡ made_load about version) }
 {
     let mut refs = RefList::new(alloc);
     refs.push(ModRef {
@@ -29,7 +29,7 @@ fn load(alloc: Global, about: Subject, version: u32) -> Result<ScriptCmd, NoMemo
 }
 
 fn put(alloc: Global, about: Subject, place: u32, version: u32) -> Result<ScriptCmd, NoMemory>
-    ensures { IfOk result (λ command. command ≡ put_of about place version) }
+    ensures { IfOk result (λ command. command ≡ put_by_maker about place version) }
 {
     let mut parts = TermList::new(alloc);
     parts.push(Term::Int(i64::from(place)))?;
@@ -79,7 +79,7 @@ fn spawns_at(place: u32) -> bool
 
 /// The command at a place, where the generator has this number.
 fn command_of(alloc: Global, about: Subject, place: u32, number: u32) -> Result<ScriptCmd, NoMemory>
-    ensures { IfOk result (λ command. command ≡ command_of about place number) }
+    ensures { IfOk result (λ command. command ≡ made_command about place number) }
 {
     if place == 0 {
         return load(alloc, about, 1);

@@ -6,7 +6,7 @@ use Rattle.std.proofs.lemmas.Bool.{and_from, eqb-true, eq-eqb, not-true}
 use Rattle.area_core.specs.declared.table.Published.{Published}
 use Rattle.area_core.specs.declared.table.KeptArea.{KeptArea}
 use Rattle.area_core.specs.Map.{slot_place}
-use Rattle.area_core.specs.Generations.{is_used, is_kept, is_kept_as, has_area, has_image, serial_in, is_naming, names}
+use Rattle.area_core.specs.Generations.{is_used, is_kept, is_kept_as, has_area, has_image, serial_in, is_naming, anchor_names_area}
 use Rattle.area_core.specs.Blocks.{Blocks, BlockInvariant, Among, IsAnchor}
 use Rattle.area_core.proofs.Tests.{passed_by, filter_gives, filter_keeps, filter_apart, three_hold}
 
@@ -25,7 +25,7 @@ module _ (b : Blocks) (Counts : ℕ → Type 0) (sound : BlockInvariant b Counts
   pub was : (k : KeptArea) → Among (filter stays b.kept) k → Among b.kept k
   was k among = (filter_gives stays b.kept among.0 k among.1).0
 
-  module _ (used : (g : ℕ) (p : Published) → Counts g → slice_get b.published g ≡ Some p → (k : KeptArea) → Among b.kept k → is_used p k.area.serial ≡ true → stays k ≡ true) (named : (k : KeptArea) (process anchor : ℕ) → Among b.kept k → IsAnchor process anchor → names (b.word (slot_place process anchor)) k.area.serial ≡ true → stays k ≡ true) where
+  module _ (used : (g : ℕ) (p : Published) → Counts g → slice_get b.published g ≡ Some p → (k : KeptArea) → Among b.kept k → is_used p k.area.serial ≡ true → stays k ≡ true) (named : (k : KeptArea) (process anchor : ℕ) → Among b.kept k → IsAnchor process anchor → anchor_names_area (b.word (slot_place process anchor)) k.area.serial ≡ true → stays k ≡ true) where
     used_stay : (g : ℕ) (p : Published) → Counts g → slice_get b.published g ≡ Some p → (serial : ℕ) → IsTrue (is_used p serial) → IsTrue (list_any (is_kept_as p serial) (filter stays b.kept))
     used_stay g p counts here serial uses =
         let found = passed_by (is_kept_as p serial) b.kept (sound.used_kept g p counts here serial uses) in

@@ -11,7 +11,7 @@ use Rattle.area_core.specs.Blocks.{Among, KeptApart, UsedAreKept}
 use Rattle.area_core.specs.Readers.{reaches_block, reads_in_block, has_instance_in}
 use Rattle.area_core.proofs.Tests.{some_passes, passed_by, three_hold}
 use Rattle.area_core.proofs.EntryStores.{same_area}
-use Rattle.shared_words.specs.Rule.{AreApart}
+use Rattle.shared_words.specs.Rule.{AreAreasApart}
 
 -- ---- indices and term tables
 
@@ -53,7 +53,7 @@ same_place : (a b : AreaRef) (x y : ℕ) → a ≡ b → a.block ≡ x → b.blo
 same_place a b x y one at_a at_b = sym at_a ∙ ap (λ (r : AreaRef). r.block) one ∙ at_b
 
 -- a generation that reads a word of a block uses the area that is kept in it
-pub used_there : (kept : List KeptArea) (p : Published) → AreApart p → UsedAreKept kept p → KeptApart kept → (k : KeptArea) → Among kept k → AREAS_START ≤ k.area.block → (block at : ℕ) → k.area.block ≡ block → reads_in_block p block at ≡ true → is_used p k.area.serial ≡ true
+pub used_there : (kept : List KeptArea) (p : Published) → AreAreasApart p → UsedAreKept kept p → KeptApart kept → (k : KeptArea) → Among kept k → AREAS_START ≤ k.area.block → (block at : ℕ) → k.area.block ≡ block → reads_in_block p block at ≡ true → is_used p k.area.serial ≡ true
 used_there kept p once used apart k among high block at same reads =
     let reaches : reaches_block p block ≡ true = sym (reads_area p block at (subst (λ (n : ℕ). 9 ≤ n) same high)) ∙ reads in
     let found = passed_by (λ (a : AreaRef). (a.block == block) && is_reached p a.serial) p.areas reaches in

@@ -11,7 +11,7 @@ use Rattle.prgr_core.proofs.SoundParts.{is_member}
 use Rattle.area_core.specs.declared.map.TheConstants.{PROCESSES}
 use Rattle.area_core.specs.declared.table.Published.{Published}
 use Rattle.area_core.specs.Map.{slot_place}
-use Rattle.area_core.specs.Generations.{is_current, is_instance, is_key_area, is_used, is_retired, has_serial, names}
+use Rattle.area_core.specs.Generations.{is_current, is_instance, is_key_area, is_used, is_retired_area, has_serial, anchor_names_area}
 use Rattle.area_core.specs.Blocks.{IsAnchor}
 use Rattle.area_core.specs.Step.{IsReadable, opening_published}
 use Rattle.marks.specs.declared.kept.LookKind.{LookKind}
@@ -56,7 +56,7 @@ module _ (published : List Published) (old_stays : OldStays published) (retired_
   -- where an area was gone in the kind, no later turn comes to it
   pub gone_later : (n g : ℕ) (q p : Published) (awake : Bool) (kind : LookKind) (serial : ℕ) → n ≤ g → slice_get published n ≡ Some q → slice_get published g ≡ Some p → is_gone q kind serial ≡ true → comes_to (holding awake g p) kind serial ≡ false
   gone_later n g q p awake Frame serial later first second gone =
-      elim (or_cases (is_retired q serial) (has_serial q.state.old serial) gone) as (λ _. is_current p serial ≡ false) [
+      elim (or_cases (is_retired_area q serial) (has_serial q.state.old serial) gone) as (λ _. is_current p serial ≡ false) [
         | inl retired ↦ unused_gone p awake g Frame serial (retired_stays n g q p serial later first second retired)
         | inr old ↦ old_stays n g q p serial later first second old
       ]
@@ -65,7 +65,7 @@ module _ (published : List Published) (old_stays : OldStays published) (retired_
 -- ---- words of anchors
 
 -- what names an area in neither kind does not name it
-pub names_neither : (word serial : ℕ) → names_in Both word serial ≡ false → names word serial ≡ false
+pub names_neither : (word serial : ℕ) → names_in Both word serial ≡ false → anchor_names_area word serial ≡ false
 names_neither word serial clear = grind (arith, nat_tests)
 
 module _ {Served : Published → Type 0} {opening : Opening} (s : State (Unit {0}) View) (r : RunningRule Served opening s) where

@@ -58,10 +58,10 @@ add_event p k which a at few may =
     ∙ ap (option_and_then (λ (delay : Delay). cond (watchers.may_add a.phase delay) (Some (raised p k a delay)) None)) (numbered_so which few)
     ∙ ap (λ (t : Bool). cond t (Some (raised p k a (delay_of which))) None) may
 
-sub_event : (p : Progress) (k which : ℕ) (a : watching.Watcher) → slice_get p.watchers k ≡ Some a → which < DELAY_COUNTS → (watchers.may_leave a.phase && watchers.holds (delay_of which) a) ≡ true → after p (prgr.WatchSub k which) ≡ Some (lowered p k a (delay_of which))
+sub_event : (p : Progress) (k which : ℕ) (a : watching.Watcher) → slice_get p.watchers k ≡ Some a → which < DELAY_COUNTS → (watchers.may_leave a.phase && watchers.holds_delay (delay_of which) a) ≡ true → after p (prgr.WatchSub k which) ≡ Some (lowered p k a (delay_of which))
 sub_event p k which a at few may =
-    ap (option_and_then (λ (watcher : watching.Watcher). option_and_then (λ (delay : Delay). cond (watchers.may_leave watcher.phase && watchers.holds delay watcher) (Some (lowered p k watcher delay)) None) (delay_numbered which))) at
-    ∙ ap (option_and_then (λ (delay : Delay). cond (watchers.may_leave a.phase && watchers.holds delay a) (Some (lowered p k a delay)) None)) (numbered_so which few)
+    ap (option_and_then (λ (watcher : watching.Watcher). option_and_then (λ (delay : Delay). cond (watchers.may_leave watcher.phase && watchers.holds_delay delay watcher) (Some (lowered p k watcher delay)) None) (delay_numbered which))) at
+    ∙ ap (option_and_then (λ (delay : Delay). cond (watchers.may_leave a.phase && watchers.holds_delay delay a) (Some (lowered p k a delay)) None)) (numbered_so which few)
     ∙ ap (λ (t : Bool). cond t (Some (lowered p k a (delay_of which))) None) may
 
 look_event : (p : Progress) (k : ℕ) (a : machines.Member) (scans : Scans) → slice_get p.members k ≡ Some a → a.role ≡ Leads scans → after p (prgr.ScanDelay k) ≡ Some (with_member p k (members.leading_with (delay_scan_of scans (delay_count p (delay_of (p.counter + 1)))) a))
@@ -106,7 +106,7 @@ module _ {Served : Published → Type 0} {opening : Opening} (s : State (Unit {0
   few_hold : (delay : Delay) → delay_count p delay ≤ opening.watchers
   few_hold delay =
       let counted : delay_count p delay ≡ holders delay p.watchers = r.machine.progress.invariant.delays_counted delay in
-      let most : holders delay p.watchers ≤ length p.watchers = count_by-le-length (watchers.holds delay) p.watchers in
+      let most : holders delay p.watchers ≤ length p.watchers = count_by-le-length (watchers.holds_delay delay) p.watchers in
       let made : length p.watchers ≡ opening.watchers = watchers_length r.writer.watchers (drop (length r.writer.members) r.seats) ∙ r.published.watched in
       omega (arith, counted, most, made)
 
@@ -114,7 +114,7 @@ module _ {Served : Published → Type 0} {opening : Opening} (s : State (Unit {0
   most_hold : (delay : Delay) → delay_count p delay ≤ 4
   most_hold delay =
       let counted : delay_count p delay ≡ holders delay p.watchers = r.machine.progress.invariant.delays_counted delay in
-      let most : holders delay p.watchers ≤ length p.watchers = count_by-le-length (watchers.holds delay) p.watchers in
+      let most : holders delay p.watchers ≤ length p.watchers = count_by-le-length (watchers.holds_delay delay) p.watchers in
       let few = r.machine.progress.watchers_few in
       omega (arith, counted, most, few)
 
@@ -155,7 +155,7 @@ module _ {Served : Published → Type 0} {opening : Opening} (s : State (Unit {0
     drops may =
         let a = v.watcher in
         delay_store (slice_index s.words (DELAYS + which) - 1) (watchers.delay_dropped (delay_of which) a) (prgr.WatchSub a.number which) refl
-        (sub_event p a.number which a (watcher_here s r place v at) few (and_from (watchers.may_leave a.phase) (watchers.holds (delay_of which) a) may.leaves may.holds)
+        (sub_event p a.number which a (watcher_here s r place v at) few (and_from (watchers.may_leave a.phase) (watchers.holds_delay (delay_of which) a) may.leaves may.holds)
         ∙ ap (λ (n : ℕ). Some (with_delay_count (with_watcher p a.number (watchers.delay_dropped (delay_of which) a)) (delay_of which) (n - 1))) (count_at s.words r.writer r.seats which few))
 
     -- what it holds is counted

@@ -21,7 +21,7 @@ use Rattle.marks.specs.declared.kept.DroppedArea.{DroppedArea}
 use Rattle.marks.specs.declared.kept.WriterKept.{WriterKept}
 use Rattle.marks.specs.Names.{tells_kill}
 use Rattle.marks.specs.Kept.{IsKnown, IsBacked}
-use Rattle.marks.specs.Steps.{with_dropped, IsLookedThrough, ToldOfKill}
+use Rattle.marks.specs.Steps.{with_drop_kept, IsLookedThrough, ToldOfKill}
 use Rattle.marks.proofs.Anchors.{among_cons, has_element}
 use Rattle.marks.proofs.WriterSteps.{drop_kept, drop_backed}
 use Rattle.shared_words.specs.declared.table.TheConstants.{ROOT}
@@ -30,7 +30,7 @@ use Rattle.shared_words.specs.declared.view.MemberView.{MemberView}
 use Rattle.shared_words.specs.declared.view.WriterView.{WriterView}
 use Rattle.shared_words.specs.declared.view.View.{View}
 use Rattle.shared_words.specs.declared.view.View.TheVariants.{Writer}
-use Rattle.shared_words.specs.Views.{newest}
+use Rattle.shared_words.specs.Views.{newest_number}
 use Rattle.shared_words.specs.Shown.{views_shown}
 use Rattle.shared_words.specs.Seats.{writer_of}
 use Rattle.shared_words.specs.Processes.{process_of, under_of}
@@ -258,7 +258,7 @@ module _ {Served : Published → Type 0} {opening : Opening} (s : State (Unit {0
     }
 
     -- no member is under a later generation than the newest
-    none_later : (k : ℕ) (m : MemberView) → slice_get (views_shown r.writer.members r.seats) k ≡ Some m → m.member.generation ≤ newest r.writer.published
+    none_later : (k : ℕ) (m : MemberView) → slice_get (views_shown r.writer.members r.seats) k ≡ Some m → m.member.generation ≤ newest_number r.writer.published
     none_later k m at =
         let knows = knows_shown s r k m at in
         let holds = knows.holds in
@@ -266,7 +266,7 @@ module _ {Served : Published → Type 0} {opening : Opening} (s : State (Unit {0
         omega (arith, holds, long)
 
     known_dropped : (process k : ℕ) (m : MemberView) → process < PROCESSES → slice_get (views_shown r.writer.members r.seats) k ≡ Some m → SlotKnown s.words r.writer m process
-        → IsKnown (under_of m) process (process_of m process) (with_dropped r.writer.looks d)
+        → IsKnown (under_of m) process (process_of m process) (with_drop_kept r.writer.looks d)
     known_dropped process k m below at h =
         drop_kept (under_of m) process (process_of m process) r.writer.looks d h.known (through process below) (none_later k m at) (killed_is r.writer.looks d.wait process below)
 

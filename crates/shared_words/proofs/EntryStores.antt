@@ -11,8 +11,8 @@ use Rattle.area_core.specs.declared.map.WordKind.{WordKind}
 use Rattle.area_core.specs.declared.map.WordKind.TheVariants.{InBlock}
 use Rattle.area_core.specs.declared.table.Published.{Published}
 use Rattle.area_core.specs.declared.table.KeptArea.{KeptArea}
-use Rattle.area_core.specs.Map.{word_at, kind_at, block_place, breakpoint_at, entry_at}
-use Rattle.area_core.specs.Generations.{functions_of, has_function, is_entry_word, is_traced}
+use Rattle.area_core.specs.Map.{word_at, kind_at, block_place, breakpoint_at, image_entry_at}
+use Rattle.area_core.specs.Generations.{functions_in_image, has_function, is_entry_word, is_traced_function}
 use Rattle.area_core.specs.Stores.{entry_word}
 use Rattle.area_core.specs.Blocks.{BlockInvariant, Among, FitsBlock}
 use Rattle.area_core.proofs.Places.{kind_block}
@@ -39,20 +39,20 @@ use Rattle.shared_words.proofs.WriterFrames.{writer_at}
 
 -- the place of an entry word
 abbrev entry_place : CodeRef → ℕ
-entry_place at = block_place at.area.block (entry_at at.function)
+entry_place at = block_place at.area.block (image_entry_at at.function)
 
 -- a function is one of an instance, in a big block
 pub in_big : (w : WriterView) (at : CodeRef) (on : Bool) → MayStoreEntry w at on → at.area.block < BIG_BLOCKS
 in_big w at on may =
-    subst (λ (a : AreaRef). a.block < 64) may.of (ltb-true may.area.area.block 64 (and_parts (nat_lt may.area.area.block 64) (nat_lt at.function (functions_of may.area.words)) may.has).0)
+    subst (λ (a : AreaRef). a.block < 64) may.of (ltb-true may.area.area.block 64 (and_parts (nat_lt may.area.area.block 64) (nat_lt at.function (functions_in_image may.area.words)) may.has).0)
 
 -- its word is one of the block
-pub entry_kind : (at : CodeRef) (k : KeptArea) → k.area ≡ at.area → FitsBlock k → IsTrue (has_function k at.function) → kind_at (entry_place at) ≡ InBlock at.area.block (entry_at at.function)
+pub entry_kind : (at : CodeRef) (k : KeptArea) → k.area ≡ at.area → FitsBlock k → IsTrue (has_function k at.function) → kind_at (entry_place at) ≡ InBlock at.area.block (image_entry_at at.function)
 entry_kind at k of fits has =
     let own = function_fits k at.function fits has in
     let big : at.area.block < 64 = subst (λ (a : AreaRef). a.block < 64) of own.0 in
     let few = own.1 in
-    kind_block at.area.block (entry_at at.function) (omega (arith, big)) (big_room at.area.block (entry_at at.function) big (omega (arith, few)))
+    kind_block at.area.block (image_entry_at at.function) (omega (arith, big)) (big_room at.area.block (image_entry_at at.function) big (omega (arith, few)))
 
 -- ---- the store
 
@@ -61,7 +61,7 @@ module _ {Served : Published → Type 0} {opening : Opening} (s : State (Unit {0
   block = at.area.block
 
   abbrev place : ℕ
-  place = entry_at at.function
+  place = image_entry_at at.function
 
   same : may.area.area.block ≡ block
   same = ap (λ (a : AreaRef). a.block) may.of
@@ -100,10 +100,10 @@ module _ {Served : Published → Type 0} {opening : Opening} (s : State (Unit {0
         let low = high in
         absurd (omega (arith, parts.0, term, low));
     entries = λ g p counts here k among function has one empty.
-        let parts = same_block block place k.area.block (entry_at function) one in
+        let parts = same_block block place k.area.block (image_entry_at function) one in
         let its : at.area ≡ k.area = sym may.of ∙ ap (λ (x : KeptArea). x.area) (only k among parts.0) in
         let own : at.function ≡ function = omega (arith, parts.1) in
-        subst (λ (z : AreaRef × ℕ). is_traced p z.0.serial z.1 ≡ false) (λ i. (its i, own i)) (may.untraced (off on empty) g p counts here);
+        subst (λ (z : AreaRef × ℕ). is_traced_function p z.0.serial z.1 ≡ false) (λ i. (its i, own i)) (may.untraced (off on empty) g p counts here);
     retired = λ g p counts here k among one. absurd (cc);
     doomed = λ g p counts here k among one unretired. absurd (cc);
     images = λ k among other old has plain one.

@@ -9,7 +9,7 @@ use Rattle.shared_words.specs.declared.seats.Member as tokens
 use Rattle.shared_words.specs.declared.view.MemberView.{MemberView}
 use Rattle.shared_words.specs.declared.view.View.TheVariants.{Member}
 use Rattle.shared_words.specs.Opening.{member_begun}
-use Rattle.shared_words.specs.Seats.{Place, IsSeatOf, IsSameSeat}
+use Rattle.shared_words.specs.Seats.{SeatPlace, IsSeatOf, IsSameSeat}
 use Rattle.shared_words.specs.Making.{HasSeatsAtHome, handed_on, handed_out, IsHanding, IsMemberBegun, AreMembersBegun}
 use Rattle.shared_words.specs.Processes.{AreCopied}
 use Rattle.shared_words.proofs.OpeningRule.{begun_get, empty_replicate, opening_empty}
@@ -18,18 +18,18 @@ use Rattle.area_core.proofs.Counted.{opened}
 use Rattle.std.proofs.lemmas.List.{length-replicate}
 
 -- a seat is at home while not all are handed out
-pub is_at_home : (table : TableId) (opening : Opening) (n : ℕ) (seat : Place) → n < opening.members → IsHanding table opening n seat → HasSeatsAtHome opening seat.me.0
+pub is_at_home : (table : TableId) (opening : Opening) (n : ℕ) (seat : SeatPlace) → n < opening.members → IsHanding table opening n seat → HasSeatsAtHome opening seat.me.0
 is_at_home table opening n seat few h = subst (HasSeatsAtHome opening) (sym h.view) few
 
 -- the writer after one more
-pub handing_next : (table : TableId) (opening : Opening) (n : ℕ) (old new : Place) → IsHanding table opening n old → IsSameSeat old new → new.me.0 ≡ handed_on old.me.0 → IsHanding table opening (n + 1) new
+pub handing_next : (table : TableId) (opening : Opening) (n : ℕ) (old new : SeatPlace) → IsHanding table opening n old → IsSameSeat old new → new.me.0 ≡ handed_on old.me.0 → IsHanding table opening (n + 1) new
 handing_next table opening n old new h same on = record {
   of_table = record { same_table = same.same_table ∙ h.of_table.same_table; no_slots = same.same_slots ∙ h.of_table.no_slots };
   view = on ∙ ap handed_on h.view;
 }
 
 -- the tokens with one more
-pub members_next : (table : TableId) (opening : Opening) (n : ℕ) (old : Place) (members : List tokens.Member) (token : tokens.Member) → n < opening.members → IsHanding table opening n old → AreMembersBegun table n members
+pub members_next : (table : TableId) (opening : Opening) (n : ℕ) (old : SeatPlace) (members : List tokens.Member) (token : tokens.Member) → n < opening.members → IsHanding table opening n old → AreMembersBegun table n members
     → IsSeatOf table token.seat → token.seat.me.0 ≡ handed_out old.me.0 → token.number ≡ n → token.root ≡ OPENING_ROOT → AreCopied token.anchors.items (member_begun n) → AreMembersBegun table (n + 1) (members ++ token ∷ [])
 members_next table opening n old members token few h made of out number root copied = record {
   all = length-append members (token ∷ []) ∙ ap (λ (k : ℕ). k + 1) made.all;

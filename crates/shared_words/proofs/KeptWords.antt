@@ -17,7 +17,7 @@ use Rattle.area_core.proofs.Tests.{filter_keeps, passed_by}
 use Rattle.area_core.proofs.BlockStores.{same_block}
 use Rattle.shared_words.specs.declared.view.BlockWord.{BlockWord}
 use Rattle.shared_words.specs.declared.view.WriterView.{WriterView}
-use Rattle.shared_words.specs.Rule.{MayBeRead, AreApart, IsPlain, WordKept}
+use Rattle.shared_words.specs.Rule.{MayBeRead, AreAreasApart, IsPlain, WordKept}
 use Rattle.shared_words.specs.Publishing.{FitsInBlock, FitsWord, MayStoreWord, IsSteady, is_released, kept_left, with_word, with_next}
 use Rattle.shared_words.proofs.ShownMembers.{still_at}
 use Rattle.shared_words.proofs.AreaReleases.{unless}
@@ -42,7 +42,7 @@ kept_with w p f h = record {
 }
 
 -- an area that is released is none whose words a generation which may be read reads
-plain_left : (w : WriterView) (words : ℕ → ℕ) (value : ℕ) (kind : WordKind) → FitsWord w value kind → BlockInvariant (record { word = words; published = w.published; kept = w.kept }) (MayBeRead w) → (g : ℕ) (p : Published) → MayBeRead w g → slice_get w.published g ≡ Some p → AreApart p
+plain_left : (w : WriterView) (words : ℕ → ℕ) (value : ℕ) (kind : WordKind) → FitsWord w value kind → BlockInvariant (record { word = words; published = w.published; kept = w.kept }) (MayBeRead w) → (g : ℕ) (p : Published) → MayBeRead w g → slice_get w.published g ≡ Some p → AreAreasApart p
     → (block at : ℕ) → reads_in_block p block at ≡ true → IsPlain (kept_left w value kind) block at → IsPlain w.kept block at
 plain_left w words value (Retire other) fits sound g p may here once block at reads plain = λ k among same.
     elim (cases_Bool (is_entry_word k at)) as (λ _. is_entry_word k at ≡ false) [
@@ -77,7 +77,7 @@ kept_patched w word value block at is k among same entry f h = record {
         true≢false (sym entry ∙ ap (is_entry_word k) parts.1 ∙ plain k among (same ∙ parts.0))
 
 -- no other store is into a word of a block that a generation which may be read reads
-pub kept_stored : (w : WriterView) (word value : ℕ) → MayStoreWord w word value → (words : ℕ → ℕ) → BlockInvariant (record { word = words; published = w.published; kept = w.kept }) (MayBeRead w) → ((p : Published) → Among w.published p → AreApart p) → (f : BlockWord) → WordKept w f → WordKept (with_word word value w) f
+pub kept_stored : (w : WriterView) (word value : ℕ) → MayStoreWord w word value → (words : ℕ → ℕ) → BlockInvariant (record { word = words; published = w.published; kept = w.kept }) (MayBeRead w) → ((p : Published) → Among w.published p → AreAreasApart p) → (f : BlockWord) → WordKept w f → WordKept (with_word word value w) f
 kept_stored w word value fits words sound once f h = record {
   published = h.published;
   at = h.at;

@@ -9,7 +9,7 @@ use Rattle.area_core.specs.declared.table.Published.{Published}
 use Rattle.shared_words.specs.declared.opening.Opening.{Opening}
 use Rattle.shared_words.specs.declared.view.WriterView.{WriterView}
 use Rattle.shared_words.specs.declared.view.View.TheVariants.{Writer}
-use Rattle.shared_words.specs.Seats.{Place, writer_of}
+use Rattle.shared_words.specs.Seats.{SeatPlace, writer_of}
 use Rattle.shared_words.specs.Kinds.{Sat}
 use Rattle.shared_words.specs.Rule.{RunningRule}
 use Rattle.shared_words.specs.Closing.{IsLastWord, word_seen}
@@ -43,14 +43,14 @@ see_word_is_allowed Served about slots id word me s r wide at fits = (
 )
 
 -- the words that were loaded so far
-pub record AreSeen (old new : Place) (words : List ℕ) (count : ℕ) : Type 0 where
+pub record AreSeen (old new : SeatPlace) (words : List ℕ) (count : ℕ) : Type 0 where
   pub seat : new.table_id ≡ old.table_id
   pub view : new.me.0 ≡ old.me.0
   pub long : length words ≡ count
   pub each : (place word : ℕ) → slice_get words place ≡ Some word → IsLastWord (writer_of old.me.0) place word
 
 -- none at first
-pub none_seen : (old : Place) (words : List ℕ) → words ≡ [] → AreSeen old old words 0
+pub none_seen : (old : SeatPlace) (words : List ℕ) → words ≡ [] → AreSeen old old words 0
 none_seen old words is = record {
   seat = refl;
   view = refl;
@@ -59,7 +59,7 @@ none_seen old words is = record {
 }
 
 -- one more
-pub more_seen : (old new newer : Place) (words more : List ℕ) (slots count found : ℕ) → old.me.0 ≡ Writer (writer_of old.me.0) → AreSeen old new words count → newer.table_id ≡ new.table_id → word_seen (step slots count 0 0 none) new.me found newer.me → more ≡ words ++ found ∷ [] → AreSeen old newer more (count + 1)
+pub more_seen : (old new newer : SeatPlace) (words more : List ℕ) (slots count found : ℕ) → old.me.0 ≡ Writer (writer_of old.me.0) → AreSeen old new words count → newer.table_id ≡ new.table_id → word_seen (step slots count 0 0 none) new.me found newer.me → more ≡ words ++ found ∷ [] → AreSeen old newer more (count + 1)
 more_seen old new newer words more slots count found is h same told all = record {
   seat = same ∙ h.seat;
   view = ap (λ (me : Sat). me.0) told.same ∙ h.view;

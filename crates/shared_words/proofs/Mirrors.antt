@@ -5,10 +5,10 @@ use Rattle.std.proofs.lemmas.Bool.Decides.{nat_tests}
 use Rattle.area_core.specs.declared.map.TheConstants.{RETIRE_START, TERMS_START}
 use Rattle.area_core.specs.declared.table.Published.{Published}
 use Rattle.area_core.specs.declared.table.KeptArea.{KeptArea}
-use Rattle.area_core.specs.Map.{block_place, retire_place, doom_place, entry_at, breakpoint_place, term_place}
-use Rattle.area_core.specs.Generations.{is_code_word, is_retired, is_doomed, tells}
+use Rattle.area_core.specs.Map.{block_place, retire_place, doom_place, image_entry_at, breakpoint_place, term_place}
+use Rattle.area_core.specs.Generations.{is_code_word, is_retired_area, is_doomed_area, tells}
 use Rattle.area_core.specs.Terms.{TermsStand}
-use Rattle.area_core.specs.Blocks.{CodeStands, BreakpointsStand, term_words, ImageStands, AreaStands}
+use Rattle.area_core.specs.Blocks.{CodeStands, BreakpointsStand, term_blocks_words, ImageStands, AreaStands}
 use Rattle.area_core.proofs.Frames.{terms_same}
 
 -- a word of a block stands behind the slots
@@ -22,14 +22,14 @@ module _ (word new : ℕ → ℕ) (same : (place : ℕ) → RETIRE_START ≤ pla
   pub breakpoints_mirrored : (p : Published) → BreakpointsStand word p → BreakpointsStand new p
   breakpoints_mirrored p stands a among instance function few = same (breakpoint_place p.root.bp a.block function) (block_late _ _) ∙ stands a among instance function few
 
-  pub terms_mirrored : (p : Published) → TermsStand (term_words word p.root) p → TermsStand (term_words new p.root) p
-  terms_mirrored p stands = terms_same (term_words word p.root) (term_words new p.root) p (λ at within. same (term_place p.root.term at) (block_late (TERMS_START + p.root.term) at)) stands
+  pub terms_mirrored : (p : Published) → TermsStand (term_blocks_words word p.root) p → TermsStand (term_blocks_words new p.root) p
+  terms_mirrored p stands = terms_same (term_blocks_words word p.root) (term_blocks_words new p.root) p (λ at within. same (term_place p.root.term at) (block_late (TERMS_START + p.root.term) at)) stands
 
   pub area_mirrored : (k : KeptArea) (g : ℕ) (p : Published) → AreaStands word k g p → AreaStands new k g p
   area_mirrored k g p stands = record {
-    entries = λ function has none_stored. stands.entries function has (sym (same (block_place k.area.block (entry_at function)) (block_late k.area.block (entry_at function))) ∙ none_stored);
-    retired = subst (λ (x : ℕ). tells x g ≡ is_retired p k.area.serial) (sym (same (retire_place k.area.block) (omega arith))) stands.retired;
-    doomed = λ big unretired. subst (λ (x : ℕ). tells x g ≡ is_doomed p k.area.serial) (sym (same (doom_place k.area.block) (omega arith))) (stands.doomed big unretired);
+    entries = λ function has none_stored. stands.entries function has (sym (same (block_place k.area.block (image_entry_at function)) (block_late k.area.block (image_entry_at function))) ∙ none_stored);
+    retired = subst (λ (x : ℕ). tells x g ≡ is_retired_area p k.area.serial) (sym (same (retire_place k.area.block) (omega arith))) stands.retired;
+    doomed = λ big unretired. subst (λ (x : ℕ). tells x g ≡ is_doomed_area p k.area.serial) (sym (same (doom_place k.area.block) (omega arith))) (stands.doomed big unretired);
   }
 
   pub image_mirrored : (k : KeptArea) → ImageStands word k → ImageStands new k

@@ -10,9 +10,9 @@ use Rattle.area_core.specs.declared.map.TheConstants.{PROCESSES, ANCHORS}
 use Rattle.area_core.specs.declared.table.KeptArea.{KeptArea}
 use Rattle.area_core.specs.declared.table.Published.{Published}
 use Rattle.area_core.specs.Blocks.{Among}
-use Rattle.area_core.specs.Generations.{is_kept, is_naming, names, serial_in}
+use Rattle.area_core.specs.Generations.{is_kept, is_naming, anchor_names_area, serial_in}
 use Rattle.area_core.specs.Map.{word_at, slot_place}
-use Rattle.area_core.specs.Roots.{image_of}
+use Rattle.area_core.specs.Roots.{serial_image}
 use Rattle.area_core.specs.Step.{opening_published}
 use Rattle.area_core.proofs.Tests.{passed_by}
 use Rattle.marks.specs.Names.{HasAnchor}
@@ -30,7 +30,7 @@ use Rattle.shared_words.proofs.ShownViews.{views_at}
 use Rattle.shared_words.proofs.ShownWords.{shown_word}
 
 -- an anchor that is 0 names nothing
-names_none : (word serial : ℕ) → word ≡ 0 → names word serial ≡ true → ⊥
+names_none : (word serial : ℕ) → word ≡ 0 → anchor_names_area word serial ≡ true → ⊥
 names_none word serial none passes = true≢false (sym (and_parts (is_naming word) (serial_in word == serial) passes).0 ∙ ap is_naming none)
 
 module _ {Served : Published → Type 0} {opening : Opening} (s : State (Unit {0}) View) (r : RunningRule Served opening s) (k : ℕ) (m : MemberView) (at : get_elem? r.seats k ≡ some (Member m)) where
@@ -41,7 +41,7 @@ module _ {Served : Published → Type 0} {opening : Opening} (s : State (Unit {0
       ap (λ (xs : List Published). slice_get xs m.member.generation) knows.seen.1 ∙ still_at m.seen knows.seen.0 m.member.generation (held_by_view m) (there_is m.seen m.member.generation opening_published knows.holds)
 
   -- what the slot of one of its processes names is kept
-  own_kept : (process serial : ℕ) → IsOwn (length r.writer.members) k process → HasAnchor names (process_of m process).slot.anchors serial → is_kept r.writer.kept serial ≡ true
+  own_kept : (process serial : ℕ) → IsOwn (length r.writer.members) k process → HasAnchor anchor_names_area (process_of m process).slot.anchors serial → is_kept r.writer.kept serial ≡ true
   own_kept process serial own anchor =
       let knows = r.each_seat k (Member m) at in
       let known = r.marks process k m own.below own.own (views_at r.writer.members r.seats k m knows.made at) in
@@ -53,7 +53,7 @@ module _ {Served : Published → Type 0} {opening : Opening} (s : State (Unit {0
       (r.words.blocks.named_kept process (anchor.place + 1) (record { slot = own.below; first = omega arith; last = omega (arith, few, wide) }) (ap is_naming is ∙ parts.0))
 
   -- another slot names nothing
-  else_none : (process serial : ℕ) → (IsOwn (length r.writer.members) k process → ⊥) → HasAnchor names (process_of m process).slot.anchors serial → ⊥
+  else_none : (process serial : ℕ) → (IsOwn (length r.writer.members) k process → ⊥) → HasAnchor anchor_names_area (process_of m process).slot.anchors serial → ⊥
   else_none process serial else anchor =
       let knows = r.each_seat k (Member m) at in
       let same = ap (λ (x : ProcessSlot). x.slot.anchors) (knows.own_slots process else) in
@@ -87,5 +87,5 @@ module _ {Served : Published → Type 0} {opening : Opening} (s : State (Unit {0
       let has = r.published.areas_stay.stay m.member.generation later (held_by_view m) q kept.area le held_at here kept.among kept.has in
       record {
         listed = subst (Among q.areas) kept.is has.listed;
-        image = subst (λ (x : AreaRef). image_of q.state.areas x.serial ≡ image_of (held_by_view m).state.areas x.serial) kept.is (has.image ∙ sym kept.has.image);
+        image = subst (λ (x : AreaRef). serial_image q.state.areas x.serial ≡ serial_image (held_by_view m).state.areas x.serial) kept.is (has.image ∙ sym kept.has.image);
       }

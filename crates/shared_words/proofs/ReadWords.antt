@@ -21,7 +21,7 @@ use Rattle.shared_words.specs.declared.view.MemberView.{MemberView}
 use Rattle.shared_words.specs.declared.view.WatcherView.{WatcherView}
 use Rattle.shared_words.specs.declared.view.View.{View}
 use Rattle.shared_words.specs.declared.view.View.TheVariants.{Writer, Member, Watcher, Note, Spent}
-use Rattle.shared_words.specs.Views.{newest}
+use Rattle.shared_words.specs.Views.{newest_number}
 use Rattle.shared_words.specs.Shown.{progress_of}
 use Rattle.shared_words.specs.Rule.{RunningRule}
 use Rattle.shared_words.specs.Publishing.{FitsInBlock, FitsWord, MayStoreWord, ReadsHeld, is_of_block, ReadsNamed, MayLoadWord}
@@ -90,5 +90,5 @@ module _ {Served : Published → Type 0} {opening : Opening} (s : State (Unit {0
   not_loaded zero v here loads =
       let same : Writer r.writer ≡ v = some-injective (Writer r.writer) v (ap (λ (vs : List View). get_elem? vs 0) (sym r.views) ∙ here) in
       let mine : MayLoadWord word (Writer r.writer) = subst (MayLoadWord word) (sym same) loads in
-      absurd (unread names.Writer (newest r.writer.published) (slice_get r.writer.published (newest r.writer.published)) refl refl mine)
+      absurd (unread names.Writer (newest_number r.writer.published) (slice_get r.writer.published (newest_number r.writer.published)) refl refl mine)
   not_loaded (suc k) v here loads = behind_unread k v (ap (λ (vs : List View). get_elem? vs (suc k)) (sym r.views) ∙ here) loads

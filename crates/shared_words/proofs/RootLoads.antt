@@ -28,7 +28,7 @@ use Rattle.shared_words.specs.declared.view.NoteView.{NoteView}
 use Rattle.shared_words.specs.declared.view.WatcherView.{WatcherView}
 use Rattle.shared_words.specs.declared.view.View.{View}
 use Rattle.shared_words.specs.declared.view.View.TheVariants.{Writer, Member, Watcher, Note, Spent}
-use Rattle.shared_words.specs.Views.{newest, newest_root, published_at, seen, notes_of}
+use Rattle.shared_words.specs.Views.{newest_number, newest_root, published_at, seen_generations, notes_of}
 use Rattle.shared_words.specs.Shown.{progress_of}
 use Rattle.shared_words.specs.Seats.{member_of}
 use Rattle.shared_words.specs.Kinds.{Sat, IsSameIn, NamedStay, MayLoadRoot, member_with_root, watcher_with_root, root_found, RootLoaded, root_loaded}
@@ -57,13 +57,13 @@ word_kept true g a = refl
 word_kept false g a = refl
 
 within : (b : Bool) (g n : ℕ) (a : machines.Member) → g < n → a.generation < n → (cond b (members.root_loaded g a) a).generation < n
-within true g n a newest old = newest
-within false g n a newest old = old
+within true g n a newest_number old = newest_number
+within false g n a newest_number old = old
 
 -- what is known of a process, once its member has learnt of all generations
-root_known : (b : Bool) (all : List Published) (m : MemberView) (process : ℕ) (k : WriterKept) → (b ≡ true → IsAtRest (process_of m process)) → m.member.generation ≤ newest all → IsBeginning m.seen all → m.member.generation < length m.seen
-    → IsKnown (under_of m) process (process_of m process) k → IsKnown (under_of (record m { member = cond b (members.root_loaded (newest all) m.member) m.member; seen = all })) process (process_of m process) k
-root_known true all m process k rest later begins learnt h = known_at_rest (under_of m) (under_of (record m { member = members.root_loaded (newest all) m.member; seen = all })) process (process_of m process) k h (rest refl) later
+root_known : (b : Bool) (all : List Published) (m : MemberView) (process : ℕ) (k : WriterKept) → (b ≡ true → IsAtRest (process_of m process)) → m.member.generation ≤ newest_number all → IsBeginning m.seen all → m.member.generation < length m.seen
+    → IsKnown (under_of m) process (process_of m process) k → IsKnown (under_of (record m { member = cond b (members.root_loaded (newest_number all) m.member) m.member; seen = all })) process (process_of m process) k
+root_known true all m process k rest later begins learnt h = known_at_rest (under_of m) (under_of (record m { member = members.root_loaded (newest_number all) m.member; seen = all })) process (process_of m process) k h (rest refl) later
 root_known false all m process k rest later begins learnt h =
     subst (λ (p : Published). IsKnown (holding (members.is_value m.member.word) m.member.generation p) process (process_of m process) k) (sym (published_begins m.seen all m.member.generation begins learnt)) h
 
@@ -124,39 +124,39 @@ module _ {Served : Published → Type 0} {opening : Opening} (s : State (Unit {0
   all = r.writer.published
 
   -- the newest is among them
-  last : newest all < length all
+  last : newest_number all < length all
   last = (let first = r.published.some in omega arith)
 
   -- the newest may be read, whatever was retired
-  may_be_read : MayBeRead r.writer (newest all)
+  may_be_read : MayBeRead r.writer (newest_number all)
   may_be_read pair among need = (r.machine.progress.invariant.needs_near pair.generation pair.need among).0
 
   -- its root names blocks that there are
-  newest_fits : RootFits (published_at all (newest all)).root
-  newest_fits = r.words.blocks.roots_fit (newest all) (published_at all (newest all)) may_be_read (there_is all (newest all) opening_published last)
+  newest_fits : RootFits (published_at all (newest_number all)).root
+  newest_fits = r.words.blocks.roots_fit (newest_number all) (published_at all (newest_number all)) may_be_read (there_is all (newest_number all) opening_published last)
 
   -- it has the areas that it uses
-  newest_has : HasItsAreas (published_at all (newest all))
+  newest_has : HasItsAreas (published_at all (newest_number all))
   newest_has =
-      let p = published_at all (newest all) in
-      let at = there_is all (newest all) opening_published last in record {
-        apart = r.published.areas_stay.apart p (newest all, at);
+      let p = published_at all (newest_number all) in
+      let at = there_is all (newest_number all) opening_published last in record {
+        apart = r.published.areas_stay.apart p (newest_number all, at);
         listed = λ serial uses.
-            let kept = passed_by (is_kept_as p serial) r.writer.kept (r.words.blocks.used_kept (newest all) p may_be_read at serial uses) in
+            let kept = passed_by (is_kept_as p serial) r.writer.kept (r.words.blocks.used_kept (newest_number all) p may_be_read at serial uses) in
             let placed = (and_parts ((kept.0.area.serial == serial) && has_area p.areas serial kept.0.area.block) (has_image p.state.areas serial kept.0.words) kept.3).0 in
             has_listed p.areas serial kept.0.area.block (and_parts (kept.0.area.serial == serial) (has_area p.areas serial kept.0.area.block) placed).1;
       }
 
   -- what is told of them
-  told : (v w : View) → seen w ≡ all → NamedStay v w → IsBeginning (seen v) all → ((note : NoteNumber) → Among (notes_of v) note → Among r.writer.notes note) → w ≡ root_found all v → RootLoaded Served v w (slice_index s.words ROOT)
+  told : (v w : View) → seen_generations w ≡ all → NamedStay v w → IsBeginning (seen_generations v) all → ((note : NoteNumber) → Among (notes_of v) note → Among r.writer.notes note) → w ≡ root_found all v → RootLoaded Served v w (slice_index s.words ROOT)
   told v w is named learnt noted same = record {
-    learnt = subst (λ (xs : List Published). IsBeginning (seen v) xs) (sym is) learnt;
+    learnt = subst (λ (xs : List Published). IsBeginning (seen_generations v) xs) (sym is) learnt;
     some = subst (λ (xs : List Published). 0 < length xs) (sym is) r.published.some;
     root = r.words.root ∙ ap newest_root (sym is);
-    fits = subst (λ (xs : List Published). RootFits (published_at xs (newest xs)).root) (sym is) newest_fits;
-    served = subst (λ (xs : List Published). Served (published_at xs (newest xs))) (sym is) (r.published.served (published_at all (newest all)) (newest all, there_is all (newest all) opening_published last));
+    fits = subst (λ (xs : List Published). RootFits (published_at xs (newest_number xs)).root) (sym is) newest_fits;
+    served = subst (λ (xs : List Published). Served (published_at xs (newest_number xs))) (sym is) (r.published.served (published_at all (newest_number all)) (newest_number all, there_is all (newest_number all) opening_published last));
     promised = λ note among. subst (λ (xs : List Published). note.published < length xs) (sym is) (r.published.notes_fit note (noted note among)).counted;
-    areas = subst (λ (xs : List Published). HasItsAreas (published_at xs (newest xs))) (sym is) newest_has;
+    areas = subst (λ (xs : List Published). HasItsAreas (published_at xs (newest_number xs))) (sym is) newest_has;
     named = named;
     view = same ∙ ap (λ (xs : List Published). root_found xs v) (sym is);
   }
@@ -167,7 +167,7 @@ module _ {Served : Published → Type 0} {opening : Opening} (s : State (Unit {0
       let knows = r.each_seat k (Member m) at in
       let p = progress_of s.words r.writer r.seats in
       let b = has_loaded m.member.loaded in
-      let g = newest all in
+      let g = newest_number all in
       let m' : MemberView = record m { member = member_with_root g m.member; seen = all } in
       let shown = shown_at r.writer.members r.seats k m knows.made at in
       member_step s r s.words k m m' at (record {
@@ -195,16 +195,16 @@ module _ {Served : Published → Type 0} {opening : Opening} (s : State (Unit {0
   member_named : (k : ℕ) (m : MemberView) → get_elem? r.seats k ≡ some (Member m) → NamedStay (Member m) (root_found all (Member m))
   member_named k m at x y first second a named listed =
       let is : m ≡ x = ap member_of first in
-      let then : record m { member = member_with_root (newest all) m.member; seen = all } ≡ y = ap member_of second in
+      let then : record m { member = member_with_root (newest_number all) m.member; seen = all } ≡ y = ap member_of second in
       subst (λ (n : MemberView). IsSameIn (held_by_view x) (held_by_view n) a) then
-      (subst (λ (n : MemberView). IsSameIn (held_by_view n) (held_by_view (record m { member = member_with_root (newest all) m.member; seen = all })) a) is
+      (subst (λ (n : MemberView). IsSameIn (held_by_view n) (held_by_view (record m { member = member_with_root (newest_number all) m.member; seen = all })) a) is
       (by_loaded (has_loaded m.member.loaded) (subst (λ (n : MemberView). NamesArea n a.serial) (sym is) named) (subst (λ (n : MemberView). Among (held_by_view n).areas a) (sym is) listed)))
     where
-      by_loaded : (b : Bool) → NamesArea m a.serial → Among (held_by_view m).areas a → IsSameIn (held_by_view m) (published_at all (cond b (members.root_loaded (newest all) m.member) m.member).generation) a
+      by_loaded : (b : Bool) → NamesArea m a.serial → Among (held_by_view m).areas a → IsSameIn (held_by_view m) (published_at all (cond b (members.root_loaded (newest_number all) m.member) m.member).generation) a
       by_loaded true names here =
           let knows = r.each_seat k (Member m) at in
           let learnt = shorter m.seen all knows.seen m.member.generation knows.holds in
-          same_later s r k m at (newest all) (published_at all (newest all)) a (omega (arith, learnt)) (there_is all (newest all) opening_published last) names here
+          same_later s r k m at (newest_number all) (published_at all (newest_number all)) a (omega (arith, learnt)) (there_is all (newest_number all) opening_published last) names here
       by_loaded false names here =
           let knows = r.each_seat k (Member m) at in
           subst (λ (q : Published). IsSameIn (held_by_view m) q a) (sym (published_begins m.seen all m.member.generation knows.seen knows.holds)) (record { listed = here; image = refl })
@@ -215,7 +215,7 @@ module _ {Served : Published → Type 0} {opening : Opening} (s : State (Unit {0
       let knows = r.each_seat k (Watcher v) at in
       let p = progress_of s.words r.writer r.seats in
       let b = watchers.is_claimed v.watcher.phase in
-      let g = newest all in
+      let g = newest_number all in
       let v' : WatcherView = record v { watcher = watcher_with_root g v.watcher; seen = all } in
       let number : v'.watcher.number ≡ v.watcher.number = watched_number b g v.watcher in
       let same = progress_watched s.words r.writer r.seats k v.watcher.number v' knows.numbered knows.made (there r.seats k (Watcher v) at) in

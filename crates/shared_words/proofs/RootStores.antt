@@ -16,7 +16,7 @@ use Rattle.area_core.specs.declared.table.KeptArea.{KeptArea}
 use Rattle.area_core.specs.Map.{word_at, opening_words, slot_place}
 use Rattle.area_core.specs.Generations.{is_kept_as, serial_in}
 use Rattle.area_core.specs.Terms.{TermsStand}
-use Rattle.area_core.specs.Blocks.{Blocks, BlockInvariant, EachCounted, Among, RootFits, InstancesPlaced, CodeStands, BreakpointsStand, term_words, UsedAreKept, FitsBlock, ImageStands, AreaStands}
+use Rattle.area_core.specs.Blocks.{Blocks, BlockInvariant, EachCounted, Among, RootFits, InstancesPlaced, CodeStands, BreakpointsStand, term_blocks_words, UsedAreKept, FitsBlock, ImageStands, AreaStands}
 use Rattle.area_core.specs.Roots.{fresh_areas}
 use Rattle.area_core.specs.Step.{opening_published}
 use Rattle.area_core.proofs.Joined.{any_joined}
@@ -26,11 +26,11 @@ use Rattle.shared_words.specs.declared.opening.Opening.{Opening}
 use Rattle.shared_words.specs.declared.view.WriterView.{WriterView}
 use Rattle.shared_words.specs.declared.view.View.{View}
 use Rattle.shared_words.specs.declared.view.View.TheVariants.{Writer}
-use Rattle.shared_words.specs.Views.{newest, newest_root, published_at, root_word}
+use Rattle.shared_words.specs.Views.{newest_number, newest_root, published_at, root_word}
 use Rattle.shared_words.specs.Shown.{block_words, progress_of}
 use Rattle.shared_words.specs.Seats.{writer_of}
 use Rattle.shared_words.specs.Kinds.{Sat}
-use Rattle.shared_words.specs.Rule.{IsBeginning, HasArea, AreApart, AreasStay, MayBeRead, RunningRule}
+use Rattle.shared_words.specs.Rule.{IsBeginning, HasArea, AreAreasApart, AreasStay, MayBeRead, RunningRule}
 use Rattle.shared_words.specs.Publishing.{kept_next, StandsFor, FreshStand, AreasGoOn, MayPublish, IsRootOf, with_next, root_stored}
 use Rattle.shared_words.proofs.ShownMembers.{drop_set, within_get}
 use Rattle.shared_words.proofs.KeptWords.{kept_with}
@@ -44,7 +44,7 @@ use Rattle.shared_words.proofs.WriterFrames.{writer_step, writer_at}
 -- ---- the list of what was published
 
 -- the number of the newest with one more
-pub newest_next : (published : List Published) (p : Published) → newest (published ++ p ∷ []) ≡ length published
+pub newest_next : (published : List Published) (p : Published) → newest_number (published ++ p ∷ []) ≡ length published
 newest_next published p = omega (arith, length-append published (p ∷ []))
 
 -- and what it is
@@ -107,7 +107,7 @@ module _ (words : List ℕ) (w : WriterView) (sound : BlockInvariant (record { w
     instances_placed = each_after (λ g q. InstancesPlaced q) stands.placed sound.instances_placed;
     code_stands = each_after (λ g q. CodeStands (word_at words) q) (code_mirrored (word_at w.words) (word_at words) mirrored p stands.code) sound.code_stands;
     breakpoints_stand = each_after (λ g q. BreakpointsStand (word_at words) q) (breakpoints_mirrored (word_at w.words) (word_at words) mirrored p stands.breakpoints) sound.breakpoints_stand;
-    terms_stand = each_after (λ g q. TermsStand (term_words (word_at words) q.root) q) (terms_mirrored (word_at w.words) (word_at words) mirrored p stands.terms) sound.terms_stand;
+    terms_stand = each_after (λ g q. TermsStand (term_blocks_words (word_at words) q.root) q) (terms_mirrored (word_at w.words) (word_at words) mirrored p stands.terms) sound.terms_stand;
     used_kept = each_after (λ g q. UsedAreKept (kept_next w p) q) stands.used (λ g q counts at serial uses. more (is_kept_as q serial) (sound.used_kept g q counts at serial uses));
     areas_stand = each_after (λ g q. (k : KeptArea) → Among (kept_next w p) k → AreaStands (word_at words) k g q)
         (λ k among. area_mirrored (word_at w.words) (word_at words) mirrored k (length w.published) p (stands.areas k among))
@@ -146,9 +146,9 @@ module _ (w : WriterView) (stay : AreasStay w.published w.kept) (p : Published) 
   areas_next : AreasStay (w.published ++ p ∷ []) (kept_next w p)
   areas_next = record {
     apart = λ q among.
-        elim (before_or_next among.0 q among.1) as (λ _. AreApart q) [
+        elim (before_or_next among.0 q among.1) as (λ _. AreAreasApart q) [
           | inl before ↦ stay.apart q (among.0, before)
-          | inr last ↦ subst AreApart (sym last.1) goes.apart
+          | inr last ↦ subst AreAreasApart (sym last.1) goes.apart
         ];
     same = λ q k a published among listed serial.
         elim (before_or_next published.0 q published.1) as (λ _. HasArea q k) [
@@ -185,7 +185,7 @@ module _ {Served : Published → Type 0} {opening : Opening} (s : State (Unit {0
       let size = r.words.all in
       let behind = drop_set SLOTS_START ROOT s.words x (omega arith) in
       let q = progress_of s.words w r.seats in
-      let one_more : newest (w.published ++ p ∷ []) ≡ newest w.published + 1 = omega (arith, newest_next w.published p, first) in
+      let one_more : newest_number (w.published ++ p ∷ []) ≡ newest_number w.published + 1 = omega (arith, newest_next w.published p, first) in
       let shown = progress_words s.words words' w' r.seats (slice_index s.words COUNTER) (slice_index s.words LEAD)
       (get_or-set_other s.words ROOT COUNTER x 0 (λ e. absurd (omega arith)))
       (get_or-set_other s.words ROOT LEAD x 0 (λ e. absurd (omega arith)))
@@ -217,7 +217,7 @@ module _ {Served : Published → Type 0} {opening : Opening} (s : State (Unit {0
         blocks = subst (λ (ws : List ℕ). BlockInvariant (record { word = word_at (opening_words SLOTS_START ++ ws); published = w'.published; kept = w'.kept }) (MayBeRead w)) (sym behind) (blocks_next (block_words s.words) w r.words.blocks p may.stands may.fresh (λ place late. shown_word s.words place (omega (arith, late)) ∙ r.words.mirrored place late));
       })
       (record {
-        progress = subst IsSound (sym (shown ∙ (λ i. record q { generation = one_more i }))) (keeps_sound q prgr.Publish (record q { generation = newest w.published + 1 }) r.machine.progress refl);
+        progress = subst IsSound (sym (shown ∙ (λ i. record q { generation = one_more i }))) (keeps_sound q prgr.Publish (record q { generation = newest_number w.published + 1 }) r.machine.progress refl);
         own_words = λ k a at. get_or-set_other s.words ROOT (CONFIRMED + k) x 0 (λ e. absurd (omega arith)) ∙ r.machine.own_words k a at;
         others_wait = λ k beyond below. get_or-set_other s.words ROOT (CONFIRMED + k) x 0 (λ e. absurd (omega arith)) ∙ r.machine.others_wait k beyond below;
         leader_made = subst (λ (l : ℕ). l ≤ length w.members) (sym (get_or-set_other s.words ROOT LEAD x 0 (λ e. absurd (omega arith)))) r.machine.leader_made;

@@ -9,7 +9,7 @@ use Rattle.area_core.specs.Blocks.{RootFits}
 use Rattle.shared_words.specs.declared.view.MemberView.{MemberView}
 use Rattle.shared_words.specs.declared.view.View.{View}
 use Rattle.shared_words.specs.declared.view.View.TheVariants.{Member}
-use Rattle.shared_words.specs.Views.{newest, published_at, root_word, seen}
+use Rattle.shared_words.specs.Views.{newest_number, published_at, root_word, seen_generations}
 use Rattle.shared_words.specs.Seats.{member_of, IsRooted}
 use Rattle.shared_words.specs.Kinds.{RootLoaded}
 
@@ -21,8 +21,8 @@ generation_found false g a is = absurd (cc)
 -- after a load of the root by a member that has loaded the counter
 pub rooted_by_load : (Served : Published → Type 0) (m : MemberView) (new : View) (found : ℕ) → has_loaded m.member.loaded ≡ true → RootLoaded Served (Member m) new found → IsRooted found (member_of new)
 rooted_by_load Served m new found loaded told =
-    let xs : List Published = seen new in
-    let held = generation_found (has_loaded m.member.loaded) (newest xs) m.member loaded in
+    let xs : List Published = seen_generations new in
+    let held = generation_found (has_loaded m.member.loaded) (newest_number xs) m.member loaded in
     let first = told.some in
     subst (λ (v : View). IsRooted found (member_of v)) (sym told.view) (record {
       learnt = subst (λ (g : ℕ). g < length xs) (sym held) (omega arith);

@@ -9,7 +9,7 @@ use Rattle.area_core.specs.Blocks.{Among}
 use Rattle.shared_words.specs.declared.seats.Member as tokens
 use Rattle.shared_words.specs.declared.view.WriterView.{WriterView}
 use Rattle.shared_words.specs.declared.view.View.TheVariants.{Writer}
-use Rattle.shared_words.specs.Seats.{Place, IsSameSeat, IsMemberSeat, member_of, writer_of}
+use Rattle.shared_words.specs.Seats.{SeatPlace, IsSameSeat, IsMemberSeat, member_of, writer_of}
 use Rattle.shared_words.specs.Closing.{AreAllMembers, with_member, member_taken, HasAllMembers, AreKnown, AreMarked, HaveMarks}
 use Rattle.shared_words.specs.Rule.{IsBeginning}
 use Rattle.shared_words.proofs.ShownMembers.{still_at, within_get}
@@ -31,7 +31,7 @@ set_there (y ∷ ys) (suc k) (suc j) x apart = set_there ys k j x (λ e. apart (
 
 -- ---- the seats that are left, and those that came in
 
-pub record HasTaken (members left : List tokens.Member) (old new : Place) : Type 0 where
+pub record HasTaken (members left : List tokens.Member) (old new : SeatPlace) : Type 0 where
   pub seat : IsSameSeat old new
   pub view : new.me.0 ≡ Writer (writer_of new.me.0)
   pub same : writer_of new.me.0 ≡ record (writer_of old.me.0) { members = (writer_of new.me.0).members; taken = (writer_of new.me.0).taken; watchers = (writer_of new.me.0).watchers }
@@ -42,7 +42,7 @@ pub record HasTaken (members left : List tokens.Member) (old new : Place) : Type
   pub come : (k : ℕ) (token : tokens.Member) → length left ≤ k → slice_get members k ≡ Some token → Among (writer_of new.me.0).taken k
 
 -- none at first
-pub none_taken : (members : List tokens.Member) (old : Place) → old.me.0 ≡ Writer (writer_of old.me.0) → HasTaken members members old old
+pub none_taken : (members : List tokens.Member) (old : SeatPlace) → old.me.0 ≡ Writer (writer_of old.me.0) → HasTaken members members old old
 none_taken members old is = record {
   seat = record { same_table = refl; same_number = refl; same_slots = refl };
   view = is;
@@ -55,14 +55,14 @@ none_taken members old is = record {
 }
 
 -- the last of those that are left
-pub last_of : (table : TableId) (count : ℕ) (members left few : List tokens.Member) (member : tokens.Member) (old new : Place) → AreAllMembers table count members → HasTaken members left old new → left ≡ few ++ member ∷ [] → (slice_get members (length few) ≡ Some member) × IsMemberSeat table (length few) member.seat
+pub last_of : (table : TableId) (count : ℕ) (members left few : List tokens.Member) (member : tokens.Member) (old new : SeatPlace) → AreAllMembers table count members → HasTaken members left old new → left ≡ few ++ member ∷ [] → (slice_get members (length few) ≡ Some member) × IsMemberSeat table (length few) member.seat
 last_of table count members left few member old new all h is =
     let at : slice_get members (length few) ≡ Some member =
     ap (λ (xs : List tokens.Member). slice_get xs (length few)) (h.split ∙ ap (λ (xs : List tokens.Member). xs ++ h.rest) is) ∙ still_at (few ++ member ∷ []) h.rest (length few) member (last_get few member) in
     (at, all.each (length few) member at)
 
 -- one more
-pub taken_next : (table : TableId) (members left few : List tokens.Member) (member : tokens.Member) (old new newer : Place) → AreAllMembers table (length (writer_of old.me.0).members) members → HasTaken members left old new → left ≡ few ++ member ∷ []
+pub taken_next : (table : TableId) (members left few : List tokens.Member) (member : tokens.Member) (old new newer : SeatPlace) → AreAllMembers table (length (writer_of old.me.0).members) members → HasTaken members left old new → left ≡ few ++ member ∷ []
     → IsSameSeat new newer → newer.me.0 ≡ member_taken new.me.0 member.seat.me.0 → HasTaken members few old newer
 taken_next table members left few member old new newer all h is same taken =
     let last = last_of table (length (writer_of old.me.0).members) members left few member old new all h is in

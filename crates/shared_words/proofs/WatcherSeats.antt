@@ -21,7 +21,7 @@ use Rattle.shared_words.specs.declared.view.View.{View}
 use Rattle.shared_words.specs.declared.view.View.TheVariants.{Writer, Member, Watcher, Spent}
 use Rattle.shared_words.specs.Opening.{members_begun, watcher_begun, watchers_begun}
 use Rattle.shared_words.specs.Shown.{progress_of}
-use Rattle.shared_words.specs.Seats.{Place, IsSeatOf}
+use Rattle.shared_words.specs.Seats.{SeatPlace, IsSeatOf}
 use Rattle.shared_words.specs.Making.{HasWatchersAtHome, handed_on, watcher_handed_out, IsHanding, IsWatcherBegun, AreWatchersBegun}
 use Rattle.shared_words.specs.Rule.{Knows, RunningRule}
 use Rattle.shared_words.proofs.ShownMembers.{still_at, there_is}
@@ -99,7 +99,7 @@ hand_out_watcher_is_allowed Served about (suc k) v home s r at = absurd home
 -- ---- the tokens
 
 -- a seat is at home while not all are handed out
-pub watcher_is_at_home : (table : TableId) (opening : Opening) (n : ℕ) (seat : Place) → n < opening.watchers → IsHanding table opening (opening.members + n) seat → HasWatchersAtHome opening seat.me.0
+pub watcher_is_at_home : (table : TableId) (opening : Opening) (n : ℕ) (seat : SeatPlace) → n < opening.watchers → IsHanding table opening (opening.members + n) seat → HasWatchersAtHome opening seat.me.0
 watcher_is_at_home table opening n seat few h = subst (HasWatchersAtHome opening) (sym h.view) (omega arith, omega (arith, few))
 
 -- the watcher at a place as it begins
@@ -118,7 +118,7 @@ next_begun opening n few =
     ap (λ (o : Option WatcherView). unwrap_or o (watcher_begun 0)) (ap (slice_get (watchers_begun opening.watchers)) place ∙ watched_get opening.watchers n few)
 
 -- the tokens with one more
-pub watchers_next : (table : TableId) (opening : Opening) (n : ℕ) (old : Place) (watchers : List tokens.Watcher) (token : tokens.Watcher) → n < opening.watchers → IsHanding table opening (opening.members + n) old → AreWatchersBegun table n watchers
+pub watchers_next : (table : TableId) (opening : Opening) (n : ℕ) (old : SeatPlace) (watchers : List tokens.Watcher) (token : tokens.Watcher) → n < opening.watchers → IsHanding table opening (opening.members + n) old → AreWatchersBegun table n watchers
     → IsSeatOf table token.seat → token.seat.me.0 ≡ watcher_handed_out old.me.0 → token.holds ≡ 0 → AreWatchersBegun table (n + 1) (watchers ++ token ∷ [])
 watchers_next table opening n old watchers token few h made of out holds = record {
   all = length-append watchers (token ∷ []) ∙ ap (λ (k : ℕ). k + 1) made.all;

@@ -9,7 +9,7 @@ use Rattle.shared_words.specs.declared.view.WatcherView.{WatcherView}
 use Rattle.shared_words.specs.declared.view.WriterView.{WriterView}
 use Rattle.shared_words.specs.declared.view.View.{View}
 use Rattle.shared_words.specs.declared.view.View.TheVariants.{Writer, Watcher}
-use Rattle.shared_words.specs.Seats.{Place, IsSameSeat, IsWatcherSeat, counts_held, watcher_of, writer_of}
+use Rattle.shared_words.specs.Seats.{SeatPlace, IsSameSeat, IsWatcherSeat, counts_held, watcher_of, writer_of}
 use Rattle.shared_words.specs.Making.{AreWatchersBegun}
 use Rattle.shared_words.specs.Closing.{AreWatchers, watcher_put, with_watcher, watcher_taken, HaveLearnt}
 use Rattle.shared_words.specs.Rule.{IsBeginning}
@@ -43,7 +43,7 @@ module _ (old new other : View) (is : old ≡ Writer (writer_of old)) (watcher :
 
 -- ---- the seats that are left, and those that came in
 
-pub record HasTakenWatchers (watchers left : List tokens.Watcher) (old new : Place) : Type 0 where
+pub record HasTakenWatchers (watchers left : List tokens.Watcher) (old new : SeatPlace) : Type 0 where
   pub seat : IsSameSeat old new
   pub view : new.me.0 ≡ Writer (writer_of new.me.0)
   pub same : writer_of new.me.0 ≡ record (writer_of old.me.0) { watchers = (writer_of new.me.0).watchers }
@@ -52,7 +52,7 @@ pub record HasTakenWatchers (watchers left : List tokens.Watcher) (old new : Pla
   pub learnt : (k : ℕ) (token : tokens.Watcher) → length left ≤ k → slice_get watchers k ≡ Some token → IsBeginning (watcher_of token.seat.me.0).seen (writer_of new.me.0).published
 
 -- none at first
-pub no_watcher_taken : (watchers : List tokens.Watcher) (old : Place) → old.me.0 ≡ Writer (writer_of old.me.0) → HasTakenWatchers watchers watchers old old
+pub no_watcher_taken : (watchers : List tokens.Watcher) (old : SeatPlace) → old.me.0 ≡ Writer (writer_of old.me.0) → HasTakenWatchers watchers watchers old old
 no_watcher_taken watchers old is = record {
   seat = record { same_table = refl; same_number = refl; same_slots = refl };
   view = is;
@@ -63,15 +63,15 @@ no_watcher_taken watchers old is = record {
 }
 
 -- the last of those that are left
-last_here : (watchers left few : List tokens.Watcher) (watcher : tokens.Watcher) (old new : Place) → HasTakenWatchers watchers left old new → left ≡ few ++ watcher ∷ [] → slice_get watchers (length few) ≡ Some watcher
+last_here : (watchers left few : List tokens.Watcher) (watcher : tokens.Watcher) (old new : SeatPlace) → HasTakenWatchers watchers left old new → left ≡ few ++ watcher ∷ [] → slice_get watchers (length few) ≡ Some watcher
 last_here watchers left few watcher old new h is =
     ap (λ (xs : List tokens.Watcher). slice_get xs (length few)) (h.split ∙ ap (λ (xs : List tokens.Watcher). xs ++ h.rest) is) ∙ still_at (few ++ watcher ∷ []) h.rest (length few) watcher (last_get few watcher)
 
-pub last_watcher : (table : TableId) (watchers left few : List tokens.Watcher) (watcher : tokens.Watcher) (old new : Place) → AreWatchers table watchers → HasTakenWatchers watchers left old new → left ≡ few ++ watcher ∷ [] → IsWatcherSeat table watcher.holds watcher.seat
+pub last_watcher : (table : TableId) (watchers left few : List tokens.Watcher) (watcher : tokens.Watcher) (old new : SeatPlace) → AreWatchers table watchers → HasTakenWatchers watchers left old new → left ≡ few ++ watcher ∷ [] → IsWatcherSeat table watcher.holds watcher.seat
 last_watcher table watchers left few watcher old new all h is = all (length few) watcher (last_here watchers left few watcher old new h is)
 
 -- one more
-pub watcher_taken_next : (table : TableId) (watchers left few : List tokens.Watcher) (watcher : tokens.Watcher) (old new newer : Place) → AreWatchers table watchers → HasTakenWatchers watchers left old new → left ≡ few ++ watcher ∷ []
+pub watcher_taken_next : (table : TableId) (watchers left few : List tokens.Watcher) (watcher : tokens.Watcher) (old new newer : SeatPlace) → AreWatchers table watchers → HasTakenWatchers watchers left old new → left ≡ few ++ watcher ∷ []
     → IsSameSeat new newer → newer.me.0 ≡ watcher_taken new.me.0 watcher.seat.me.0 → IsBeginning (watcher_of watcher.seat.me.0).seen (writer_of newer.me.0).published → HasTakenWatchers watchers few old newer
 watcher_taken_next table watchers left few watcher old new newer all h is same taken begins =
     let at_end = last_here watchers left few watcher old new h is in

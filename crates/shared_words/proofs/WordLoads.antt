@@ -30,10 +30,10 @@ use Rattle.shared_words.specs.declared.view.WatcherView.{WatcherView}
 use Rattle.shared_words.specs.declared.view.WriterView.{WriterView}
 use Rattle.shared_words.specs.declared.view.View.{View}
 use Rattle.shared_words.specs.declared.view.View.TheVariants.{Writer, Member, Watcher, Note, Spent}
-use Rattle.shared_words.specs.Views.{newest}
+use Rattle.shared_words.specs.Views.{newest_number}
 use Rattle.shared_words.specs.Shown.{progress_of}
 use Rattle.atomic_table.specs.Seated.{TableId}
-use Rattle.shared_words.specs.Seats.{Place}
+use Rattle.shared_words.specs.Seats.{SeatPlace}
 use Rattle.shared_words.specs.Kinds.{Sat}
 use Rattle.shared_words.specs.Passes.{MayLoad}
 use Rattle.shared_words.specs.Seats.{member_of, generation_held}
@@ -82,7 +82,7 @@ held_behind word published (Some g) reads = under_behind word (slice_get publish
 
 -- a word that may be loaded is one behind the slots
 pub may_behind : (word : ℕ) (v : View) → MayLoadWord word v → (RETIRE_START ≤ word) × (word < TABLE_WORDS)
-may_behind word (Writer w) may = held_behind word w.published (Some (newest w.published)) may
+may_behind word (Writer w) may = held_behind word w.published (Some (newest_number w.published)) may
 may_behind word (Member m) (inl reads) = held_behind word m.seen (held_by_member m.member) reads
 may_behind word (Member m) (inr named) = area_behind word named.area.block (kind_at word) refl named.of
 may_behind word (Watcher w) may = held_behind word w.seen (held_by_watcher w.watcher) may
@@ -249,7 +249,7 @@ load_word_is_allowed Served opening slots id word me may s r wide at fits =
     )
 
 -- the same as what a load by any token asks
-pub load_word_may : (Served : Published → Type 0) (opening : Opening) (table : TableId) (seat : Place) (word : ℕ) → seat.table_id ≡ table → table.words ≡ TABLE_WORDS → MayLoadWord word seat.me.0 → MayLoad Served opening table word_loaded seat word
+pub load_word_may : (Served : Published → Type 0) (opening : Opening) (table : TableId) (seat : SeatPlace) (word : ℕ) → seat.table_id ≡ table → table.words ≡ TABLE_WORDS → MayLoadWord word seat.me.0 → MayLoad Served opening table word_loaded seat word
 load_word_may Served opening table seat word same size may = record {
   same_table = same;
   there = omega (arith, size, (may_behind word seat.me.0 may).1);

@@ -15,8 +15,8 @@ use Rattle.area_core.specs.declared.map.WordKind.{WordKind}
 use Rattle.area_core.specs.declared.map.WordKind.TheVariants.{Machine, Slot, Retire, Doom, InBlock, Nowhere}
 use Rattle.area_core.specs.declared.table.Published.{Published}
 use Rattle.area_core.specs.declared.table.KeptArea.{KeptArea}
-use Rattle.area_core.specs.Map.{word_at, kind_at, block_place, retire_place, doom_place, breakpoint_at, entry_at, slot_place}
-use Rattle.area_core.specs.Generations.{is_instance, is_retired, is_doomed, is_traced, has_function, is_entry_word, tells, names}
+use Rattle.area_core.specs.Map.{word_at, kind_at, block_place, retire_place, doom_place, breakpoint_at, image_entry_at, slot_place}
+use Rattle.area_core.specs.Generations.{is_instance, is_retired_area, is_doomed_area, is_traced_function, has_function, is_entry_word, tells, anchor_names_area}
 use Rattle.area_core.specs.Blocks.{Blocks, BlockInvariant, Among, RootFits, IsForInstances, IsAnchor}
 use Rattle.area_core.specs.Readers.{reads_in_block}
 use Rattle.area_core.proofs.Places.{kind_place, kind_retire_place, kind_doom_place, word_here, word_there}
@@ -54,9 +54,9 @@ pub record Owes (published : List Published) (kept : List KeptArea) (Counts : �
   pub code : (g : ℕ) (p : Published) → Counts g → slice_get published g ≡ Some p → RootFits p.root → (entry : ℕ) → entry < EXPORT_ENTRIES → kind ≡ InBlock p.root.code entry → ⊥
   pub breakpoints : (g : ℕ) (p : Published) → Counts g → slice_get published g ≡ Some p → RootFits p.root → (a : AreaRef) → Among p.areas a → IsTrue (is_instance p a.serial) → IsForInstances a.block → (function : ℕ) → function < FUNCTIONS → kind ≡ InBlock (BREAKPOINTS_START + p.root.bp) (breakpoint_at a.block function) → ⊥
   pub terms : (g : ℕ) (p : Published) → Counts g → slice_get published g ≡ Some p → RootFits p.root → (place : ℕ) → place < BIG_WORDS → kind ≡ InBlock (TERMS_START + p.root.term) place → ⊥
-  pub entries : (g : ℕ) (p : Published) → Counts g → slice_get published g ≡ Some p → (k : KeptArea) → Among kept k → (function : ℕ) → IsTrue (has_function k function) → kind ≡ InBlock k.area.block (entry_at function) → value ≡ 0 → is_traced p k.area.serial function ≡ false
-  pub retired : (g : ℕ) (p : Published) → Counts g → slice_get published g ≡ Some p → (k : KeptArea) → Among kept k → kind ≡ Retire k.area.block → tells value g ≡ is_retired p k.area.serial
-  pub doomed : (g : ℕ) (p : Published) → Counts g → slice_get published g ≡ Some p → (k : KeptArea) → Among kept k → kind ≡ Doom k.area.block → is_retired p k.area.serial ≡ false → tells value g ≡ is_doomed p k.area.serial
+  pub entries : (g : ℕ) (p : Published) → Counts g → slice_get published g ≡ Some p → (k : KeptArea) → Among kept k → (function : ℕ) → IsTrue (has_function k function) → kind ≡ InBlock k.area.block (image_entry_at function) → value ≡ 0 → is_traced_function p k.area.serial function ≡ false
+  pub retired : (g : ℕ) (p : Published) → Counts g → slice_get published g ≡ Some p → (k : KeptArea) → Among kept k → kind ≡ Retire k.area.block → tells value g ≡ is_retired_area p k.area.serial
+  pub doomed : (g : ℕ) (p : Published) → Counts g → slice_get published g ≡ Some p → (k : KeptArea) → Among kept k → kind ≡ Doom k.area.block → is_retired_area p k.area.serial ≡ false → tells value g ≡ is_doomed_area p k.area.serial
   pub images : (k : KeptArea) → Among kept k → (place old : ℕ) → slice_get k.words place ≡ Some old → is_entry_word k place ≡ false → kind ≡ InBlock k.area.block place → value ≡ old
 
 module _ (words : List ℕ) (published : List Published) (kept : List KeptArea) (Counts : ℕ → Type 0) (all : length words ≡ TABLE_WORDS) (word value : ℕ) (within : word < TABLE_WORDS) where
@@ -80,7 +80,7 @@ module _ (words : List ℕ) (published : List Published) (kept : List KeptArea) 
         terms_stand = terms_after b Counts new kind off sound owes.terms;
         used_kept = sound.used_kept;
         areas_stand = λ g p counts here k among. record {
-          entries = entries_after b Counts new kind off sound g p counts here k among (λ function has same none. owes.entries g p counts here k among function has same (sym (at_place (block_place k.area.block (entry_at function)) (kind_place word k.area.block (entry_at function) (is ∙ same)).0) ∙ none));
+          entries = entries_after b Counts new kind off sound g p counts here k among (λ function has same none. owes.entries g p counts here k among function has same (sym (at_place (block_place k.area.block (image_entry_at function)) (kind_place word k.area.block (image_entry_at function) (is ∙ same)).0) ∙ none));
           retired = retired_after b Counts new kind off sound g p counts here k among (λ same. ap (λ (x : ℕ). tells x g) (at_place (retire_place k.area.block) (kind_retire_place word k.area.block (is ∙ same)).0) ∙ owes.retired g p counts here k among same);
           doomed = doomed_after b Counts new kind off sound g p counts here k among (λ same big unretired. ap (λ (x : ℕ). tells x g) (at_place (doom_place k.area.block) (kind_doom_place word k.area.block (is ∙ same)).0) ∙ owes.doomed g p counts here k among same unretired);
         };
@@ -110,7 +110,7 @@ owes_block w block at value fits = record {
       let term = root.term in
       read g p counts here (reads_term p block at parts.0 (omega (arith, parts.0, term)));
   entries = λ g p counts here k among function has same none.
-      let parts = same_block block at k.area.block (entry_at function) same in
+      let parts = same_block block at k.area.block (image_entry_at function) same in
       fits.entries k function among (sym parts.0) has parts.1 none g p counts here;
   retired = λ g p counts here k among same. absurd (cc);
   doomed = λ g p counts here k among same unretired. absurd (cc);
@@ -165,7 +165,7 @@ owes_by w value Slot fits = absurd fits
 owes_by w value Nowhere fits = absurd fits
 
 -- what is kept then meets the invariant before the store
-left_sound : (w : WriterView) (words : List ℕ) (value : ℕ) (kind : WordKind) → ((serial process anchor : ℕ) → IsClear w Both serial → IsAnchor process anchor → names (word_at words (slot_place process anchor)) serial ≡ false) → FitsWord w value kind → BlockInvariant (record { word = word_at words; published = w.published; kept = w.kept }) (MayBeRead w) → BlockInvariant (record { word = word_at words; published = w.published; kept = kept_left w value kind }) (MayBeRead w)
+left_sound : (w : WriterView) (words : List ℕ) (value : ℕ) (kind : WordKind) → ((serial process anchor : ℕ) → IsClear w Both serial → IsAnchor process anchor → anchor_names_area (word_at words (slot_place process anchor)) serial ≡ false) → FitsWord w value kind → BlockInvariant (record { word = word_at words; published = w.published; kept = w.kept }) (MayBeRead w) → BlockInvariant (record { word = word_at words; published = w.published; kept = kept_left w value kind }) (MayBeRead w)
 left_sound w words value (Retire block) clear fits sound =
     released (record { word = word_at words; published = w.published; kept = w.kept }) (MayBeRead w) sound (λ (x : KeptArea). not ((x.area.block == block) && is_released w value x))
     (λ g p counts here k among uses. unless (k.area.block == block) (is_released w value k) (λ same goes. true≢false (sym uses ∙ fits.unused g p counts here k among (eqb-true k.area.block block same) goes)))
@@ -207,9 +207,9 @@ mirrored_still mirror words word value place one other same =
 
 module _ {Served : Published → Type 0} {opening : Opening} (s : State (Unit {0}) View) (r : RunningRule Served opening s) where
   -- what a look in both kinds found clear no anchor that is shown names
-  unnamed_shown : (serial process anchor : ℕ) → IsClear r.writer Both serial → IsAnchor process anchor → names (word_at (block_words s.words) (slot_place process anchor)) serial ≡ false
+  unnamed_shown : (serial process anchor : ℕ) → IsClear r.writer Both serial → IsAnchor process anchor → anchor_names_area (word_at (block_words s.words) (slot_place process anchor)) serial ≡ false
   unnamed_shown serial process anchor clear is =
-      ap (λ (x : ℕ). names x serial) (shown_word s.words (slot_place process anchor) (omega arith)) ∙ names_neither (slice_index s.words (slot_place process anchor)) serial (clear_word s r Both serial clear process anchor is)
+      ap (λ (x : ℕ). anchor_names_area x serial) (shown_word s.words (slot_place process anchor) (omega arith)) ∙ names_neither (slice_index s.words (slot_place process anchor)) serial (clear_word s r Both serial clear process anchor is)
 
   -- ---- a store behind the words of the machine leaves the machine
   pub machine_kept : (w' : WriterView) (word value : ℕ) → SLOTS_START ≤ word → w'.members ≡ r.writer.members → progress_of s.words w' r.seats ≡ progress_of s.words r.writer r.seats → MachineHolds (set s.words word value) w' r.seats

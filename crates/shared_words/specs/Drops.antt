@@ -14,10 +14,10 @@ use Rattle.marks.specs.declared.kept.EndedWait.{EndedWait}
 use Rattle.marks.specs.declared.kept.LookedAnchor.{LookedAnchor}
 use Rattle.marks.specs.declared.kept.DroppedArea.{DroppedArea}
 use Rattle.marks.specs.declared.kept.WriterKept.{WriterKept}
-use Rattle.marks.specs.Steps.{with_dropped}
+use Rattle.marks.specs.Steps.{with_drop_kept}
 use Rattle.shared_words.specs.declared.view.WriterView.{WriterView}
 use Rattle.shared_words.specs.declared.view.View.TheVariants.{Writer}
-use Rattle.shared_words.specs.Views.{newest}
+use Rattle.shared_words.specs.Views.{newest_number}
 use Rattle.shared_words.specs.Seats.{writer_of}
 use Rattle.shared_words.specs.Kinds.{Sat}
 use Rattle.shared_words.specs.Publishing.{with_word, with_next}
@@ -81,11 +81,11 @@ killed_in k wait = those_below (λ process. list_any (is_kill_of wait process) k
 
 -- that the area is dropped: the wait behind the look that was clear of it, the newest generation, and whom its instance killed
 abbrev pub drop_of : WriterView → LookKind → ℕ → DroppedArea
-drop_of w kind serial = record { wait = clear_wait w.looks kind serial; generation = newest w.published; killed = killed_in w.looks (clear_wait w.looks kind serial) }
+drop_of w kind serial = record { wait = clear_wait w.looks kind serial; generation = newest_number w.published; killed = killed_in w.looks (clear_wait w.looks kind serial) }
 
 -- it keeps the drop
 abbrev pub with_drop : DroppedArea → WriterView → WriterView
-with_drop d w = record w { looks = with_dropped w.looks d }
+with_drop d w = record w { looks = with_drop_kept w.looks d }
 
 -- the drop has as killed just whom each look tells of that is kept of the area, whatever wait it stands on: of a process that it has
 -- all looks at some anchor told of a kill, and of one that it has not none did

@@ -19,7 +19,7 @@ use Rattle.term_core.specs.declared.area.AreaRef.{AreaRef}
 use Rattle.area_core.specs.declared.table.Published.{Published}
 use Rattle.area_core.specs.Step.{confirms}
 use Rattle.area_core.specs.Blocks.{RootFits, Among}
-use Rattle.area_core.specs.Roots.{image_of}
+use Rattle.area_core.specs.Roots.{serial_image}
 use Rattle.shared_words.specs.declared.table.TheConstants.{DELAYS, CONFIRMED}
 use Rattle.shared_words.specs.declared.opening.Opening.{Opening}
 use Rattle.shared_words.specs.declared.view.FoundWord.TheVariants.{MemberWord, LeaderWord, DelayCount}
@@ -29,7 +29,7 @@ use Rattle.shared_words.specs.declared.view.WatcherView.{WatcherView}
 use Rattle.shared_words.specs.declared.view.WriterView.{WriterView}
 use Rattle.shared_words.specs.declared.view.View.{View}
 use Rattle.shared_words.specs.declared.view.View.TheVariants.{Writer, Member, Watcher, Note, Spent}
-use Rattle.shared_words.specs.Views.{newest, newest_root, published_at, seen, notes_of}
+use Rattle.shared_words.specs.Views.{newest_number, newest_root, published_at, seen_generations, notes_of}
 use Rattle.shared_words.specs.Processes.{held_by_view, NamesArea, AreAtRest}
 use Rattle.shared_words.specs.Rule.{IsBeginning, HasItsAreas}
 use Rattle.shared_words.specs.Seats.{member_of, watcher_of}
@@ -52,7 +52,7 @@ MayLoadCounter Spent = ⊥
 -- the writer keeps from when on what its newest generation replaced is no longer read
 abbrev pub counter_kept : ℕ → WriterView → WriterView
 counter_kept counter w = record w {
-  pairs = w.pairs ++ (record { generation = newest w.published; need = counter + 2 }) ∷ [];
+  pairs = w.pairs ++ (record { generation = newest_number w.published; need = counter + 2 }) ∷ [];
   counter = counter;
 }
 
@@ -95,15 +95,15 @@ watcher_with_root g watcher = if watchers.is_claimed watcher.phase then watchers
 -- what a seat knows once it has found the root of the last of these generations
 abbrev pub root_found : List Published → View → View
 root_found published (Writer w) = Writer w
-root_found published (Member m) = Member (record m { member = member_with_root (newest published) m.member; seen = published })
-root_found published (Watcher w) = Watcher (record w { watcher = watcher_with_root (newest published) w.watcher; seen = published })
+root_found published (Member m) = Member (record m { member = member_with_root (newest_number published) m.member; seen = published })
+root_found published (Watcher w) = Watcher (record w { watcher = watcher_with_root (newest_number published) w.watcher; seen = published })
 root_found published (Note n) = Note (record n { seen = published })
 root_found published Spent = Spent
 
 -- a generation has the area that another has, in the same block and with the same image
 pub record IsSameIn (p q : Published) (a : AreaRef) : Type 0 where
   pub listed : Among q.areas a
-  pub image : image_of q.state.areas a.serial ≡ image_of p.state.areas a.serial
+  pub image : serial_image q.state.areas a.serial ≡ serial_image p.state.areas a.serial
 
 -- what a slot of the member names, and the generation has that it held, the generation has that it holds now
 abbrev pub NamedStay : View → View → Type 0
@@ -114,15 +114,15 @@ NamedStay old new =
 -- which the code server has made, and names blocks that there are; and what was published at a spawn is among them, of
 -- which the seat keeps a note
 pub record RootLoaded (Served : Published → Type 0) (old new : View) (found : ℕ) : Type 0 where
-  pub learnt : IsBeginning (seen old) (seen new)
-  pub some : 0 < length (seen new)
-  pub root : found ≡ newest_root (seen new)
-  pub fits : RootFits (published_at (seen new) (newest (seen new))).root
-  pub served : Served (published_at (seen new) (newest (seen new)))
-  pub promised : (note : NoteNumber) → Among (notes_of old) note → note.published < length (seen new)
-  pub areas : HasItsAreas (published_at (seen new) (newest (seen new)))
+  pub learnt : IsBeginning (seen_generations old) (seen_generations new)
+  pub some : 0 < length (seen_generations new)
+  pub root : found ≡ newest_root (seen_generations new)
+  pub fits : RootFits (published_at (seen_generations new) (newest_number (seen_generations new))).root
+  pub served : Served (published_at (seen_generations new) (newest_number (seen_generations new)))
+  pub promised : (note : NoteNumber) → Among (notes_of old) note → note.published < length (seen_generations new)
+  pub areas : HasItsAreas (published_at (seen_generations new) (newest_number (seen_generations new)))
   pub named : NamedStay old new
-  pub view : new ≡ root_found (seen new) old
+  pub view : new ≡ root_found (seen_generations new) old
 
 -- the same of a step, which moves no slot
 pub record root_loaded (Served : Published → Type 0) (st : Step (Unit {0})) (me : Sat) (found : ℕ) (me' : Sat) : Type 0 where
@@ -284,7 +284,7 @@ delay_raised st me found me' = me' ≡ (Watcher (with_delay (st.word - DELAYS) (
 pub record MayDropDelay (which : ℕ) (v : WatcherView) : Type 0 where
   pub there : which < DELAY_COUNTS
   pub leaves : IsTrue (watchers.may_leave v.watcher.phase)
-  pub holds : IsTrue (watchers.holds (watchers.delay_of which) v.watcher)
+  pub holds : IsTrue (watchers.holds_delay (watchers.delay_of which) v.watcher)
 
 -- it no longer holds the count, and no longer a generation
 abbrev pub without_delay : ℕ → WatcherView → WatcherView

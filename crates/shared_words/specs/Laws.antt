@@ -8,7 +8,7 @@ use Rattle.area_core.specs.declared.map.WordKind.TheVariants.{InBlock}
 use Rattle.area_core.specs.declared.table.KeptArea.{KeptArea}
 use Rattle.area_core.specs.declared.table.Published.{Published}
 use Rattle.area_core.specs.Generations.{is_entry_word}
-use Rattle.area_core.specs.Map.{kind_at, slot_place, block_place, entry_at}
+use Rattle.area_core.specs.Map.{kind_at, slot_place, block_place, image_entry_at}
 use Rattle.area_core.specs.Blocks.{Among, IsAnchor}
 use Rattle.area_core.specs.Readers.{held_by_member}
 use Rattle.area_core.specs.Step.{IsReadable, IsSound}
@@ -21,7 +21,7 @@ use Rattle.shared_words.specs.declared.view.WriterView.{WriterView}
 use Rattle.shared_words.specs.declared.view.MemberView.{MemberView}
 use Rattle.shared_words.specs.declared.view.View.{View}
 use Rattle.shared_words.specs.declared.view.View.TheVariants.{Member}
-use Rattle.shared_words.specs.Views.{held}
+use Rattle.shared_words.specs.Views.{held_last}
 use Rattle.shared_words.specs.Shown.{state_of}
 use Rattle.shared_words.specs.Rule.{RunningRule}
 use Rattle.shared_words.specs.Publishing.{MayStoreWord, MayStoreEntry, ReadsHeld, MayLoadWord}
@@ -33,7 +33,7 @@ ShowsSound Served = (opening : Opening) (s : State (Unit {0}) View) (r : Running
 
 -- the generation that a seat holds is one that some thread may read
 abbrev pub HeldIsReadable : (Published → Type 0) → Type 0
-HeldIsReadable Served = (opening : Opening) (s : State (Unit {0}) View) (r : RunningRule Served opening s) (id g : ℕ) (v : View) → get_elem? s.views id ≡ some v → held v ≡ Some g → IsReadable (state_of s.words r.writer r.seats) g
+HeldIsReadable Served = (opening : Opening) (s : State (Unit {0}) View) (r : RunningRule Served opening s) (id g : ℕ) (v : View) → get_elem? s.views id ≡ some v → held_last v ≡ Some g → IsReadable (state_of s.words r.writer r.seats) g
 
 -- the load is one by a slot, of an entry word of an area that is kept in the block
 pub record IsEntryLoad (kept : List KeptArea) (word block at : ℕ) (v : View) : Type 0 where
@@ -61,7 +61,7 @@ pub record IsKeptEntry (kept : List KeptArea) (word : ℕ) : Type 0 where
 
 -- so is the word of each entry that the writer may store, which it may while a seat loads the word
 abbrev pub StoresEntriesAlone : (Published → Type 0) → Type 0
-StoresEntriesAlone Served = (opening : Opening) (s : State (Unit {0}) View) (r : RunningRule Served opening s) (at : CodeRef) (on : Bool) → MayStoreEntry r.writer at on → IsKeptEntry r.writer.kept (block_place at.area.block (entry_at at.function))
+StoresEntriesAlone Served = (opening : Opening) (s : State (Unit {0}) View) (r : RunningRule Served opening s) (at : CodeRef) (on : Bool) → MayStoreEntry r.writer at on → IsKeptEntry r.writer.kept (block_place at.area.block (image_entry_at at.function))
 
 -- no slot names the area in the kind, and no turn under a generation that a thread may read comes to it
 pub record IsOutOfUse (words : List ℕ) (w : WriterView) (seats : List View) (kind : LookKind) (serial : ℕ) : Type 0 where

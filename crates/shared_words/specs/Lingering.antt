@@ -9,7 +9,7 @@ use Rattle.marks.specs.declared.kept.LingeringFrame.{LingeringFrame}
 use Rattle.marks.specs.Steps as kept
 use Rattle.shared_words.specs.declared.view.WriterView.{WriterView}
 use Rattle.shared_words.specs.declared.view.View.TheVariants.{Writer}
-use Rattle.shared_words.specs.Views.{newest}
+use Rattle.shared_words.specs.Views.{newest_number}
 use Rattle.shared_words.specs.Seats.{writer_of}
 use Rattle.shared_words.specs.Kinds.{Sat}
 use Rattle.shared_words.specs.Slots.{process_at, wait_for}
@@ -21,7 +21,7 @@ lingering_of w process serial turns = record { wait = wait_for w Frame serial; p
 -- such a look read that the process had done so many turns, and the generation of its wait is still the newest
 pub record IsLooked (w : WriterView) (process serial turns : ℕ) : Type 0 where
   pub read : Among w.looks.turns (record { wait = wait_for w Frame serial; process = process; turns = turns })
-  pub newest_is : (wait_for w Frame serial).generation ≡ newest w.published
+  pub newest_is : (wait_for w Frame serial).generation ≡ newest_number w.published
 
 -- the writer keeps the answer
 abbrev pub with_lingering : LingeringFrame → WriterView → WriterView

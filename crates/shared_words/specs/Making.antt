@@ -12,7 +12,7 @@ use Rattle.shared_words.specs.declared.seats.Watcher as watching
 use Rattle.shared_words.specs.declared.view.WriterView.{WriterView}
 use Rattle.shared_words.specs.Opening.{member_begun, watcher_begun, writer_begun}
 use Rattle.shared_words.specs.Processes.{AreCopied}
-use Rattle.shared_words.specs.Seats.{Place, IsSeatOf}
+use Rattle.shared_words.specs.Seats.{SeatPlace, IsSeatOf}
 
 -- ---- words
 
@@ -76,7 +76,7 @@ abbrev pub writer_handing : Opening → ℕ → WriterView
 writer_handing opening handed = record (writer_begun opening.members opening.watchers) { handed = handed }
 
 -- the writer's seat while seats are handed out
-pub record IsHanding (table : TableId) (opening : Opening) (handed : ℕ) (seat : Place) : Type 0 where
+pub record IsHanding (table : TableId) (opening : Opening) (handed : ℕ) (seat : SeatPlace) : Type 0 where
   pub of_table : IsSeatOf table seat
   pub view : seat.me.0 ≡ Writer (writer_handing opening handed)
 

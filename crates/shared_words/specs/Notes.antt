@@ -11,7 +11,7 @@ use Rattle.shared_words.specs.declared.view.MemberView.{MemberView}
 use Rattle.shared_words.specs.declared.view.WriterView.{WriterView}
 use Rattle.shared_words.specs.declared.view.View.{View}
 use Rattle.shared_words.specs.declared.view.View.TheVariants.{Writer, Member, Note}
-use Rattle.shared_words.specs.Views.{newest}
+use Rattle.shared_words.specs.Views.{newest_number}
 
 -- ---- the split
 
@@ -22,7 +22,7 @@ pub record MaySplitNote (w : WriterView) (process : ℕ) : Type 0 where
 
 -- the number that is kept for it
 abbrev pub note_number : ℕ → WriterView → NoteNumber
-note_number process w = record { process = process; published = newest w.published }
+note_number process w = record { process = process; published = newest_number w.published }
 
 -- the writer keeps it
 abbrev pub with_note : ℕ → WriterView → WriterView

@@ -6,7 +6,7 @@ use Rattle.prgr_core.specs.Members as members
 use Rattle.area_core.specs.declared.map.TheConstants.{PROCESSES, ANCHORS}
 use Rattle.area_core.specs.declared.table.Published.{Published}
 use Rattle.area_core.specs.Map.{word_at}
-use Rattle.area_core.specs.Generations.{names}
+use Rattle.area_core.specs.Generations.{anchor_names_area}
 use Rattle.marks.specs.declared.mark.ProcessView.{ProcessView}
 use Rattle.marks.specs.Names.{HasAnchor, IsAtRest}
 use Rattle.marks.specs.Kept.{Under}
@@ -44,7 +44,7 @@ held_by_view m = published_at m.seen m.member.generation
 
 -- the slot of a process of the member names the area
 abbrev pub NamesArea : MemberView → ℕ → Type 0
-NamesArea m serial = (process : ℕ) × HasAnchor names (process_of m process).slot.anchors serial
+NamesArea m serial = (process : ℕ) × HasAnchor anchor_names_area (process_of m process).slot.anchors serial
 
 -- no turn of a process is under way
 abbrev pub AreAtRest : MemberView → Type 0

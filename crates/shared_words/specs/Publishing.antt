@@ -13,10 +13,10 @@ use Rattle.area_core.specs.declared.map.WordKind.TheVariants.{Machine, Slot, Ret
 use Rattle.area_core.specs.declared.table.Root.{Root}
 use Rattle.area_core.specs.declared.table.Published.{Published}
 use Rattle.area_core.specs.declared.table.KeptArea.{KeptArea}
-use Rattle.area_core.specs.Map.{word_at, entry_at, kind_at}
-use Rattle.area_core.specs.Generations.{is_used, is_retired, is_doomed, is_traced, has_function, is_entry_word, tells}
+use Rattle.area_core.specs.Map.{word_at, image_entry_at, kind_at}
+use Rattle.area_core.specs.Generations.{is_used, is_retired_area, is_doomed_area, is_traced_function, has_function, is_entry_word, tells}
 use Rattle.area_core.specs.Stores.{is_released_at}
-use Rattle.area_core.specs.Blocks.{Blocks, BlockInvariant, EachCounted, Among, RootFits, InstancesPlaced, CodeStands, BreakpointsStand, term_words, UsedAreKept, FitsBlock, ImageStands, AreaStands, KeptApart}
+use Rattle.area_core.specs.Blocks.{Blocks, BlockInvariant, EachCounted, Among, RootFits, InstancesPlaced, CodeStands, BreakpointsStand, term_blocks_words, UsedAreKept, FitsBlock, ImageStands, AreaStands, KeptApart}
 use Rattle.area_core.specs.Terms.{TermsStand}
 use Rattle.area_core.specs.Readers.{reads_in_block, held_by_member, held_by_watcher, reads_word, is_read_under}
 use Rattle.area_core.specs.Roots.{fresh_areas}
@@ -27,10 +27,10 @@ use Rattle.shared_words.specs.declared.view.WatcherView.{WatcherView}
 use Rattle.shared_words.specs.declared.view.WriterView.{WriterView}
 use Rattle.shared_words.specs.declared.view.View.{View}
 use Rattle.shared_words.specs.declared.view.View.TheVariants.{Writer, Member, Watcher, Note, Spent}
-use Rattle.shared_words.specs.Views.{newest, seen, held, blocks_found}
+use Rattle.shared_words.specs.Views.{newest_number, seen_generations, held_last, blocks_found}
 use Rattle.shared_words.specs.Seats.{writer_of, generation_held}
 use Rattle.shared_words.specs.Processes.{held_by_view, NamesArea}
-use Rattle.shared_words.specs.Rule.{MayBeRead, OldStays, RetiredStays, HasArea, IsKeptIn, AreApart, IsPlain}
+use Rattle.shared_words.specs.Rule.{MayBeRead, OldStays, RetiredStays, HasArea, IsKeptIn, AreAreasApart, IsPlain}
 use Rattle.shared_words.specs.Kinds.{Sat}
 use Rattle.shared_words.specs.Slots.{IsClear}
 
@@ -49,22 +49,22 @@ pub record FitsInBlock (w : WriterView) (block at value : ℕ) : Type 0 where
   pub unread : EachMayBeRead w (λ g p. reads_in_block p block at ≡ false)
   pub unkept : (k : KeptArea) → Among w.kept k → k.area.block ≡ block → IsTrue (is_entry_word k at)
   -- an entry word is 0 only where no generation that may be read traces the function
-  pub entries : (k : KeptArea) (function : ℕ) → Among w.kept k → k.area.block ≡ block → IsTrue (has_function k function) → at ≡ entry_at function → value ≡ 0 → EachMayBeRead w (λ g p. is_traced p k.area.serial function ≡ false)
+  pub entries : (k : KeptArea) (function : ℕ) → Among w.kept k → k.area.block ≡ block → IsTrue (has_function k function) → at ≡ image_entry_at function → value ≡ 0 → EachMayBeRead w (λ g p. is_traced_function p k.area.serial function ≡ false)
 
 -- the store of this value into its retire word releases an area: 0, where the newest generation has retired it
 abbrev pub is_released : WriterView → ℕ → KeptArea → Bool
-is_released w value k = is_released_at (slice_get w.published (newest w.published)) value k
+is_released w value k = is_released_at (slice_get w.published (newest_number w.published)) value k
 
 -- the retire word of a block tells of each area that is kept in it whether it is retired; an area that is released is used
 -- by no generation that may be read, and a look in both kinds was clear of it
 pub record FitsRetire (w : WriterView) (block value : ℕ) : Type 0 where
-  pub tells_of : EachMayBeRead w (λ g p. (k : KeptArea) → Among w.kept k → k.area.block ≡ block → is_released w value k ≡ false → tells value g ≡ is_retired p k.area.serial)
+  pub tells_of : EachMayBeRead w (λ g p. (k : KeptArea) → Among w.kept k → k.area.block ≡ block → is_released w value k ≡ false → tells value g ≡ is_retired_area p k.area.serial)
   pub unused : EachMayBeRead w (λ g p. (k : KeptArea) → Among w.kept k → k.area.block ≡ block → is_released w value k ≡ true → is_used p k.area.serial ≡ false)
   pub cleared : (k : KeptArea) → Among w.kept k → k.area.block ≡ block → is_released w value k ≡ true → IsClear w Both k.area.serial
 
 -- the doom word of a block tells of each area that is kept in it, and not retired, whether it is doomed
 abbrev pub FitsDoom : WriterView → ℕ → ℕ → Type 0
-FitsDoom w block value = EachMayBeRead w (λ g p. (k : KeptArea) → Among w.kept k → k.area.block ≡ block → is_retired p k.area.serial ≡ false → tells value g ≡ is_doomed p k.area.serial)
+FitsDoom w block value = EachMayBeRead w (λ g p. (k : KeptArea) → Among w.kept k → k.area.block ≡ block → is_retired_area p k.area.serial ≡ false → tells value g ≡ is_doomed_area p k.area.serial)
 
 -- a word of this kind may become this value
 abbrev pub FitsWord : WriterView → ℕ → WordKind → Type 0
@@ -101,7 +101,7 @@ pub record MayStoreEntry (w : WriterView) (at : CodeRef) (on : Bool) : Type 0 wh
   pub of : area.area ≡ at.area
   pub has : IsTrue (has_function area at.function)
   pub few : at.function < FUNCTIONS
-  pub untraced : on ≡ false → EachMayBeRead w (λ g p. is_traced p at.area.serial at.function ≡ false)
+  pub untraced : on ≡ false → EachMayBeRead w (λ g p. is_traced_function p at.area.serial at.function ≡ false)
 
 -- ---- the store of the root
 
@@ -115,7 +115,7 @@ pub record StandsFor (w : WriterView) (p : Published) : Type 0 where
   pub placed : InstancesPlaced p
   pub code : CodeStands (word_at w.words) p
   pub breakpoints : BreakpointsStand (word_at w.words) p
-  pub terms : TermsStand (term_words (word_at w.words) p.root) p
+  pub terms : TermsStand (term_blocks_words (word_at w.words) p.root) p
   pub used : UsedAreKept (kept_next w p) p
   pub areas : (k : KeptArea) → Among (kept_next w p) k → AreaStands (word_at w.words) k (length w.published) p
 
@@ -128,7 +128,7 @@ pub record FreshStand (w : WriterView) (p : Published) : Type 0 where
 
 -- each area that is kept then stands in it, in its block and with its image, and no serial was that of another area
 pub record AreasGoOn (w : WriterView) (p : Published) : Type 0 where
-  pub apart : AreApart p
+  pub apart : AreAreasApart p
   pub kept : (k : KeptArea) → Among (kept_next w p) k → HasArea p k
   pub new : (k : KeptArea) (q : Published) (a : AreaRef) → Among (fresh_areas w.kept p) k → Among w.published q → Among q.areas a → a.serial ≢ k.area.serial
 
@@ -181,7 +181,7 @@ pub record ReadsNamed (word : ℕ) (m : MemberView) : Type 0 where
 -- who may load the word: the writer, a member and a watcher where the generation that it holds reads it, and a member where
 -- one of its slots names the area
 abbrev pub MayLoadWord : ℕ → View → Type 0
-MayLoadWord word (Writer w) = ReadsHeld word w.published (Some (newest w.published))
+MayLoadWord word (Writer w) = ReadsHeld word w.published (Some (newest_number w.published))
 MayLoadWord word (Member m) = ReadsHeld word m.seen (held_by_member m.member) ⊎ ReadsNamed word m
 MayLoadWord word (Watcher w) = ReadsHeld word w.seen (held_by_watcher w.watcher)
 MayLoadWord word (Note n) = ⊥
@@ -224,7 +224,7 @@ pub record IsWordUnder (v : View) (g : ℕ) (p : Published) (word found : ℕ) :
 
 -- what the load of a word tells: it is a word under the generation that is held
 abbrev pub WordTells : View → ℕ → ℕ → Type 0
-WordTells v word found = (g : ℕ) (p : Published) → held v ≡ Some g → slice_get (seen v) g ≡ Some p → IsWordUnder v g p word found
+WordTells v word found = (g : ℕ) (p : Published) → held_last v ≡ Some g → slice_get (seen_generations v) g ≡ Some p → IsWordUnder v g p word found
 
 -- what the writer loads is what it has stored
 abbrev pub IsOwnWord : View → ℕ → ℕ → Type 0

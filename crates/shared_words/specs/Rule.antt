@@ -15,11 +15,11 @@ use Rattle.area_core.specs.declared.map.TheConstants.{TABLE_WORDS, PROCESSES, RE
 use Rattle.area_core.specs.declared.map.WordKind.TheVariants.{InBlock}
 use Rattle.area_core.specs.declared.table.KeptArea.{KeptArea}
 use Rattle.area_core.specs.declared.table.Published.{Published}
-use Rattle.area_core.specs.Generations.{is_current, is_used, is_retired, has_serial, is_entry_word}
+use Rattle.area_core.specs.Generations.{is_current, is_used, is_retired_area, has_serial, is_entry_word}
 use Rattle.area_core.specs.Map.{word_at, slot_place, kind_at}
 use Rattle.area_core.specs.Readers.{reads_word}
 use Rattle.area_core.specs.Blocks.{Blocks, BlockInvariant, Among}
-use Rattle.area_core.specs.Roots.{image_of}
+use Rattle.area_core.specs.Roots.{serial_image}
 use Rattle.marks.specs.declared.kept.LookKind.{LookKind}
 use Rattle.marks.specs.declared.kept.LookKind.TheVariants.{Frame, Both}
 use Rattle.marks.specs.declared.kept.EndedWait.{EndedWait}
@@ -54,7 +54,7 @@ OldStays published =
 -- an area that is retired in a generation is neither current nor old nor a key's in that one or a later one
 abbrev pub RetiredStays : List Published → Type 0
 RetiredStays published =
-    (g later : ℕ) (p q : Published) (serial : ℕ) → g ≤ later → slice_get published g ≡ Some p → slice_get published later ≡ Some q → IsTrue (is_retired p serial) → is_used q serial ≡ false
+    (g later : ℕ) (p q : Published) (serial : ℕ) → g ≤ later → slice_get published g ≡ Some p → slice_get published later ≡ Some q → IsTrue (is_retired_area p serial) → is_used q serial ≡ false
 
 -- a note tells of a process that has a slot, and of no more generations than were published
 pub record NoteFits (published : List Published) (note : NoteNumber) : Type 0 where
@@ -64,7 +64,7 @@ pub record NoteFits (published : List Published) (note : NoteNumber) : Type 0 wh
 -- a generation has a kept area: in its block, and with its image
 pub record HasArea (p : Published) (k : KeptArea) : Type 0 where
   pub listed : Among p.areas k.area
-  pub image : image_of p.state.areas k.area.serial ≡ Some k.words
+  pub image : serial_image p.state.areas k.area.serial ≡ Some k.words
 
 -- the area is kept as the generation has it
 pub record IsKeptIn (kept : List KeptArea) (p : Published) (a : AreaRef) : Type 0 where
@@ -74,18 +74,18 @@ pub record IsKeptIn (kept : List KeptArea) (p : Published) (a : AreaRef) : Type 
   pub has : HasArea p area
 
 -- no two areas of a generation have one serial
-abbrev pub AreApart : Published → Type 0
-AreApart p = (a b : AreaRef) → Among p.areas a → Among p.areas b → a.serial ≡ b.serial → a ≡ b
+abbrev pub AreAreasApart : Published → Type 0
+AreAreasApart p = (a b : AreaRef) → Among p.areas a → Among p.areas b → a.serial ≡ b.serial → a ≡ b
 
 -- a generation has one area of each serial that it uses
 pub record HasItsAreas (p : Published) : Type 0 where
-  pub apart : AreApart p
+  pub apart : AreAreasApart p
   pub listed : (serial : ℕ) → IsTrue (is_used p serial) → (a : AreaRef) × Among p.areas a × (a.serial ≡ serial)
 
 -- an area that is kept is the same in all generations that have one of its serial, from the first of these on
 pub record AreasStay (published : List Published) (kept : List KeptArea) : Type 0 where
   -- no generation has two areas of one serial
-  pub apart : (p : Published) → Among published p → AreApart p
+  pub apart : (p : Published) → Among published p → AreAreasApart p
   -- what has the serial of a kept area is that area
   pub same : (p : Published) (k : KeptArea) (a : AreaRef) → Among published p → Among kept k → Among p.areas a → a.serial ≡ k.area.serial → HasArea p k
   -- and later generations have it too
@@ -116,8 +116,8 @@ pub record PublishedKept (Served : Published → Type 0) (opening : Opening) (w 
 
 -- no turn under this generation or a later one comes to the area in the kind: it is retired, or for frames an old instance
 abbrev pub is_gone : Published → LookKind → ℕ → Bool
-is_gone p Frame serial = is_retired p serial || has_serial p.state.old serial
-is_gone p Both serial = is_retired p serial
+is_gone p Frame serial = is_retired_area p serial || has_serial p.state.old serial
+is_gone p Both serial = is_retired_area p serial
 
 -- a wait is over: the counter that the writer has loaded reached what it took at a generation in which the area is gone
 pub record HasEnded (w : WriterView) (wait : EndedWait) : Type 0 where

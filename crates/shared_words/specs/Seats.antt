@@ -15,8 +15,8 @@ use Rattle.shared_words.specs.Views.{published_at, root_word}
 use Rattle.shared_words.specs.Opening.{member_begun, watcher_begun, writer_begun}
 
 -- a seat as a token has it, with the view of the table's sort
-abbrev pub Place : Type 0
-Place = Seat (Unit {0}) View
+abbrev pub SeatPlace : Type 0
+SeatPlace = Seat (Unit {0}) View
 
 -- what the member of a view knows; that of another view is of no account
 abbrev pub member_of : View → MemberView
@@ -24,12 +24,12 @@ member_of (Member m) = m
 member_of _ = member_begun 0
 
 -- the seat is one of this table, and has no slot
-pub record IsSeatOf (table : TableId) (seat : Place) : Type 0 where
+pub record IsSeatOf (table : TableId) (seat : SeatPlace) : Type 0 where
   pub same_table : seat.table_id ≡ table
   pub no_slots : seat.me.1 ≡ []
 
 -- the same seat of the same table, with or without a new view
-pub record IsSameSeat (old new : Place) : Type 0 where
+pub record IsSameSeat (old new : SeatPlace) : Type 0 where
   pub same_table : new.table_id ≡ old.table_id
   pub same_number : new.id ≡ old.id
   pub same_slots : new.me.1 ≡ old.me.1
@@ -40,7 +40,7 @@ writer_of (Writer w) = w
 writer_of _ = writer_begun 0 0
 
 -- the seat is the writer's, who has handed out the seats of all members and watchers, and this is its newest generation
-pub record IsWriterSeat (table : TableId) (opening : Opening) (generation : ℕ) (seat : Place) : Type 0 where
+pub record IsWriterSeat (table : TableId) (opening : Opening) (generation : ℕ) (seat : SeatPlace) : Type 0 where
   pub of_table : IsSeatOf table seat
   pub view : seat.me.0 ≡ Writer (writer_of seat.me.0)
   pub published : length (writer_of seat.me.0).published ≡ generation + 1
@@ -53,13 +53,13 @@ note_of (Note n) = n
 note_of _ = record { note = record { process = 0; published = 0 }; seen = [] }
 
 -- the seat is that of a note for this process
-pub record IsNoteSeat (table : TableId) (process : ℕ) (seat : Place) : Type 0 where
+pub record IsNoteSeat (table : TableId) (process : ℕ) (seat : SeatPlace) : Type 0 where
   pub of_table : IsSeatOf table seat
   pub view : seat.me.0 ≡ Note (note_of seat.me.0)
   pub process_is : (note_of seat.me.0).note.process ≡ process
 
 -- the seat is that of the member of this number
-pub record IsMemberSeat (table : TableId) (number : ℕ) (seat : Place) : Type 0 where
+pub record IsMemberSeat (table : TableId) (number : ℕ) (seat : SeatPlace) : Type 0 where
   pub few : number < MOST_MEMBERS
   pub of_table : IsSeatOf table seat
   pub view : seat.me.0 ≡ Member (member_of seat.me.0)
@@ -91,7 +91,7 @@ abbrev pub counts_held : WatcherView → ℕ
 counts_held v = counts_of v.watcher.holds_even v.watcher.holds_odd
 
 -- the seat is that of a watcher, who holds these delay counts
-pub record IsWatcherSeat (table : TableId) (holds : ℕ) (seat : Place) : Type 0 where
+pub record IsWatcherSeat (table : TableId) (holds : ℕ) (seat : SeatPlace) : Type 0 where
   pub of_table : IsSeatOf table seat
   pub view : seat.me.0 ≡ Watcher (watcher_of seat.me.0)
   pub counted : holds ≡ counts_held (watcher_of seat.me.0)

@@ -15,7 +15,7 @@ use Rattle.shared_words.specs.declared.view.WatcherView.{WatcherView}
 use Rattle.shared_words.specs.declared.view.WriterView.{WriterView}
 use Rattle.shared_words.specs.declared.view.View.{View}
 use Rattle.shared_words.specs.declared.view.View.TheVariants.{Member, Watcher}
-use Rattle.shared_words.specs.Views.{newest}
+use Rattle.shared_words.specs.Views.{newest_number}
 
 -- ---- members and watchers
 
@@ -63,7 +63,7 @@ leader_in word = if word == 0 then None else Some (word - 1)
 abbrev pub progress_of : List ℕ → WriterView → List View → Progress
 progress_of words w seats = record {
   counter = slice_index words COUNTER;
-  generation = newest w.published;
+  generation = newest_number w.published;
   leader = leader_in (slice_index words LEAD);
   members = members_shown w.members seats;
   delay_even = slice_index words DELAYS;

@@ -14,8 +14,8 @@ use Rattle.shared_words.specs.declared.view.View.TheVariants.{Writer, Member, Wa
 -- ---- generations
 
 -- the number of the newest generation
-abbrev pub newest : List Published → ℕ
-newest published = length published - 1
+abbrev pub newest_number : List Published → ℕ
+newest_number published = length published - 1
 
 -- what was published under this number; generation 0 where there is none
 abbrev pub published_at : List Published → ℕ → Published
@@ -27,17 +27,17 @@ root_word root g = root.code + 4 * root.bp + 8 * root.term + 32 * g
 
 -- the root word of the newest generation
 abbrev pub newest_root : List Published → ℕ
-newest_root published = root_word (published_at published (newest published)).root (newest published)
+newest_root published = root_word (published_at published (newest_number published)).root (newest_number published)
 
 -- ---- a pass
 
 -- the generations that a seat has learnt of, from 0 on
-abbrev pub seen : View → List Published
-seen (Writer w) = w.published
-seen (Member m) = m.seen
-seen (Watcher w) = w.seen
-seen (Note n) = n.seen
-seen Spent = []
+abbrev pub seen_generations : View → List Published
+seen_generations (Writer w) = w.published
+seen_generations (Member m) = m.seen
+seen_generations (Watcher w) = w.seen
+seen_generations (Note n) = n.seen
+seen_generations Spent = []
 
 -- the notes that a seat keeps numbers of
 abbrev pub notes_of : View → List NoteNumber
@@ -48,12 +48,12 @@ notes_of (Note n) = n.note ∷ []
 notes_of Spent = []
 
 -- the number of the generation that a seat holds, if it holds one; the writer always holds the newest
-abbrev pub held : View → Option ℕ
-held (Writer w) = Some (newest w.published)
-held (Member m) = held_by_member m.member
-held (Watcher w) = held_by_watcher w.watcher
-held (Note n) = None
-held Spent = None
+abbrev pub held_last : View → Option ℕ
+held_last (Writer w) = Some (newest_number w.published)
+held_last (Member m) = held_by_member m.member
+held_last (Watcher w) = held_by_watcher w.watcher
+held_last (Note n) = None
+held_last Spent = None
 
 -- the words of blocks that a seat keeps to have found
 abbrev pub blocks_found : View → List BlockWord

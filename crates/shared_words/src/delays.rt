@@ -4,7 +4,7 @@ ghost use Rattle.std.specs.Prelude.{◌≡◌, ◌<◌, ◌≤◌, true, false};
 ghost use Rattle.area_core.specs.declared.map.TheConstants.{TABLE_WORDS};
 ghost use Rattle.prgr_core.specs.declared.watcher.Watcher as watching;
 ghost use Rattle.prgr_core.specs.declared.watcher.TheConstants.{DELAY_COUNTS};
-ghost use Rattle.prgr_core.specs.Watchers.{delay_of, with_hold};
+ghost use Rattle.prgr_core.specs.Watchers.{delay_of, with_held_count};
 ghost use Rattle.shared_words.specs.declared.view.View.TheVariants as views;
 ghost use Rattle.shared_words.specs.Seats.{IsSeatOf, IsMemberSeat, IsWatcherSeat, IsSameSeat, member_of, watcher_of, counts_of};
 ghost use Rattle.shared_words.specs.Kinds.{MayAddDelay, MayDropDelay, MayScanDelay, with_delay, without_delay, delay_looked};
@@ -32,7 +32,7 @@ impl Watched for Brand {
 /// The delay counts that are held once this one is.
 fn counts_with(holds: u32, which: u32) -> u32
     requires which { which < DELAY_COUNTS }
-    ensures { (w : watching.Watcher) → holds ≡ counts_of w.holds_even w.holds_odd → result ≡ counts_of (with_hold (delay_of which) true w).holds_even (with_hold (delay_of which) true w).holds_odd }
+    ensures { (w : watching.Watcher) → holds ≡ counts_of w.holds_even w.holds_odd → result ≡ counts_of (with_held_count (delay_of which) true w).holds_even (with_held_count (delay_of which) true w).holds_odd }
 {
     if which == 0 {
         holds - holds % 2 + 1
@@ -44,7 +44,7 @@ fn counts_with(holds: u32, which: u32) -> u32
 /// The delay counts that are held once this one is not.
 fn counts_without(holds: u32, which: u32) -> u32
     requires which { which < DELAY_COUNTS }
-    ensures { (w : watching.Watcher) → holds ≡ counts_of w.holds_even w.holds_odd → result ≡ counts_of (with_hold (delay_of which) false w).holds_even (with_hold (delay_of which) false w).holds_odd }
+    ensures { (w : watching.Watcher) → holds ≡ counts_of w.holds_even w.holds_odd → result ≡ counts_of (with_held_count (delay_of which) false w).holds_even (with_held_count (delay_of which) false w).holds_odd }
 {
     if which == 0 {
         holds - holds % 2

@@ -2,7 +2,7 @@
 
 ghost use Rattle.std.specs.Prelude.{◌≡◌, ◌<◌};
 ghost use Rattle.area_core.specs.declared.map.TheConstants.{BIG_BLOCKS, FUNCTIONS, TABLE_WORDS};
-ghost use Rattle.area_core.specs.Map.{block_place, entry_at};
+ghost use Rattle.area_core.specs.Map.{block_place, image_entry_at};
 ghost use Rattle.area_core.specs.Stores.{entry_word};
 ghost use Rattle.shared_words.specs.declared.view.View.TheVariants as views;
 ghost use Rattle.shared_words.specs.Seats.{IsWriterSeat, IsSameSeat, writer_of};
@@ -31,7 +31,7 @@ fn entry_place(at: CodeRef) -> u32
     requires big { at.area.block < BIG_BLOCKS }
     requires few { at.function < FUNCTIONS }
     ensures there { result < TABLE_WORDS }
-    ensures place { result ≡ block_place at.area.block (entry_at at.function) }
+    ensures place { result ≡ block_place at.area.block (image_entry_at at.function) }
 {
     BLOCKS_START + at.area.block * BIG_WORDS + (at.function * ROW_WORDS + FIRST_ENTRY)
 }
@@ -57,7 +57,7 @@ impl<N: Served> Shared<N> {
         ensures token { IsWriterSeat self.now.table.shared.table_id self.now.table.shared.key writer.new.generation writer.new.seat }
         ensures same { IsSameSeat writer.old.seat writer.new.seat }
         ensures generation { writer.new.generation ≡ writer.old.generation }
-        ensures view { writer.new.seat.me.0 ≡ views.Writer (with_word (block_place at.area.block (entry_at at.function)) (entry_word on) (writer_of writer.old.seat.me.0)) }
+        ensures view { writer.new.seat.me.0 ≡ views.Writer (with_word (block_place at.area.block (image_entry_at at.function)) (entry_word on) (writer_of writer.old.seat.me.0)) }
     {
         let place = entry_place(at);
         self.table

@@ -16,10 +16,10 @@ pub type Words<N> = Shared<(), View, Opening, Law<N>>;
 /// A token of one seat.
 pub trait Pass {
     ghost use Rattle.std.specs.Prelude.{ℕ, List, Option};
-    ghost use Rattle.shared_words.specs.Seats.{Place};
+    ghost use Rattle.shared_words.specs.Seats.{SeatPlace};
 
     /// The seat.
-    ghost seat: { Self → Place };
+    ghost seat: { Self → SeatPlace };
 
     /// The number that the token keeps: of a member its own, of the writer that of the newest
     /// generation, of a note that of its process, of a watcher that of the delay counts that it holds.

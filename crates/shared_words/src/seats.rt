@@ -5,7 +5,7 @@ ghost use Rattle.shared_words.specs.declared.table.TheConstants.{PROCESSES, ANCH
 ghost use Rattle.area_core.specs.Map.{word_at};
 ghost use Rattle.shared_words.specs.Processes.{AreCopied, process_of};
 ghost use Rattle.prgr_core.specs.declared.watcher.TheConstants.{DELAY_COUNTS};
-ghost use Rattle.prgr_core.specs.Watchers.{delay_of, holds};
+ghost use Rattle.prgr_core.specs.Watchers.{delay_of, holds_delay};
 ghost use Rattle.shared_words.specs.Seats.{IsRooted, HoldsRoot, member_of, watcher_of, root_held, root_watched, counts_held};
 
 use crate::table::ANCHORS;
@@ -81,7 +81,7 @@ impl Watcher {
     pub fn holds(&self, which: u32) -> bool
         requires which { which < DELAY_COUNTS }
         requires counted { self.now.holds ≡ counts_held (watcher_of self.now.seat.me.0) }
-        ensures { result ≡ holds (delay_of which) (watcher_of self.now.seat.me.0).watcher }
+        ensures { result ≡ holds_delay (delay_of which) (watcher_of self.now.seat.me.0).watcher }
     {
         if which == 0 {
             self.holds % 2 == 1

@@ -10,7 +10,7 @@ use Rattle.std.proofs.lemmas.Option.{slice_get-get_or, slice_get_within, get_or_
 use Rattle.std.proofs.lemmas.Slice.Eq.{bytes_eq-Decides}
 use Rattle.std.specs.HashSet.{HashSet}
 use Rattle.indexmap.specs.IndexSet.{insert_key}
-use Rattle.term_core.specs.Names.{IsNames, AtomText, is_name_byte, is_atom_text, number_of, names_with, given_names, texts_of}
+use Rattle.term_core.specs.Names.{IsNames, AtomText, is_name_byte, is_atom_text, number_of, names_with, given_names, set_texts}
 use Rattle.term_core.proofs.Places.{is_some-position, position-map, position-append_one, slice_get-append, slice_get-append_one}
 use Rattle.term_core.proofs.Text.Options.{same_bytes}
 use Rattle.term_core.proofs.Truths.{none_unless}
@@ -128,12 +128,12 @@ AtomText-known names text n sound form at = record {
 }
 
 -- where a set of strings finds a text, that is its number
-pub number_at : {Y S : Type 0} (set : HashSet (String Y) S) (names : List (List ℕ)) (query text : List ℕ) (found : Option ℕ) → texts_of set ≡ names → query ≡ text → found ≡ position (λ k. bytes_eq query (string_bytes k)) set.keys → number_of names text ≡ found
+pub number_at : {Y S : Type 0} (set : HashSet (String Y) S) (names : List (List ℕ)) (query text : List ℕ) (found : Option ℕ) → set_texts set ≡ names → query ≡ text → found ≡ position (λ k. bytes_eq query (string_bytes k)) set.keys → number_of names text ≡ found
 number_at set names query text found view same e =
-    ap (λ n. number_of n text) (sym view) ∙ ap (number_of (texts_of set)) (sym same) ∙ position-map (bytes_eq query) string_bytes set.keys ∙ sym e
+    ap (λ n. number_of n text) (sym view) ∙ ap (number_of (set_texts set)) (sym same) ∙ position-map (bytes_eq query) string_bytes set.keys ∙ sym e
 
 -- how many texts a set of strings has
-pub length-texts : {Y S : Type 0} (set : HashSet (String Y) S) (names : List (List ℕ)) → texts_of set ≡ names → length set.keys ≡ length names
+pub length-texts : {Y S : Type 0} (set : HashSet (String Y) S) (names : List (List ℕ)) → set_texts set ≡ names → length set.keys ≡ length names
 length-texts set names view = sym (length-map set.keys string_bytes) ∙ ap length view
 
 -- an atom's text by its parts

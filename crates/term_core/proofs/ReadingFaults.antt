@@ -7,7 +7,7 @@ use Rattle.term_core.specs.Faults.{HasCause}
 use Rattle.term_core.specs.Gives.{GivesUnless, RefusesUnless}
 use Rattle.term_core.specs.Plain.{plain}
 use Rattle.term_core.specs.PlainTerm.{PlainTerm, term_words}
-use Rattle.term_core.specs.Reading.{Outcome, judge_syntax, judge_range, judge_length, judge_names, read_as, names_after, term_reading, ReadsAs}
+use Rattle.term_core.specs.Reading.{TermOutcome, judge_syntax, judge_range, judge_length, judge_names, read_as, names_after_text, term_reading, ReadsAs}
 use Rattle.term_core.specs.Scanning.{at_start, syntax_fault}
 use Rattle.term_core.specs.TermText.{TermText, number_in}
 use Rattle.term_core.specs.Tokens.{tokens_in, starts, built, outside_at}
@@ -20,11 +20,11 @@ use Rattle.term_core.proofs.TextForms.{text_words, text_outside}
 use Rattle.term_core.proofs.Truths.{test_lt, test_not_lt}
 
 -- one fault
-same_fault : (e f : TermFault) → ◌≡◌ {A = Outcome} (Err e) (Err f) → e ≡ f
+same_fault : (e f : TermFault) → ◌≡◌ {A = TermOutcome} (Err e) (Err f) → e ≡ f
 same_fault e f is = cc
 
 -- the cause of an equal fault
-cause_at : (names : List (List ℕ)) (text : List ℕ) (e f : TermFault) → ◌≡◌ {A = Outcome} (Err e) (Err f) → HasCause names text e → HasCause names text f
+cause_at : (names : List (List ℕ)) (text : List ℕ) (e f : TermFault) → ◌≡◌ {A = TermOutcome} (Err e) (Err f) → HasCause names text e → HasCause names text f
 cause_at names text e f is h = subst (HasCause names text) (same_fault e f is) h
 
 -- that there is no term has no cause but want of memory
@@ -33,8 +33,8 @@ read_cause names text None after f h = cause_at names text faults.NoMemory f h t
 read_cause names text (Some p) after f h = cc
 
 -- the cause of too many names
-names_cause : (names : List (List ℕ)) (text : List ℕ) (f : TermFault) → syntax_fault at_start text ≡ None → outside_at false text ≡ None → starts (tokens_in false text) ≤ 64 → (o : Option PlainTerm) (b : Bool) → nat_lt 4096 (length (names_after names text)) ≡ b →
-    cond b (Err faults.Names) (read_as o (names_after names text)) ≡ Err f → HasCause names text f
+names_cause : (names : List (List ℕ)) (text : List ℕ) (f : TermFault) → syntax_fault at_start text ≡ None → outside_at false text ≡ None → starts (tokens_in false text) ≤ 64 → (o : Option PlainTerm) (b : Bool) → nat_lt 4096 (length (names_after_text names text)) ≡ b →
+    cond b (Err faults.Names) (read_as o (names_after_text names text)) ≡ Err f → HasCause names text f
 names_cause names text f h k short o true test e =
     let r = readable_if text h k in
     cause_at names text faults.Names f e (record {
@@ -42,21 +42,21 @@ names_cause names text f h k short o true test e =
       is_text = r.is_text;
       fits = r.fits;
       short = omega (arith, text_words text r.form r.is_text, short);
-      over = subst (λ (ns : List (List ℕ)). 4096 < length ns) (text_names names text r.form r.is_text) (test_lt 4096 (length (names_after names text)) test);
+      over = subst (λ (ns : List (List ℕ)). 4096 < length ns) (text_names names text r.form r.is_text) (test_lt 4096 (length (names_after_text names text)) test);
     })
-names_cause names text f h k short o false test e = read_cause names text o (names_after names text) f e
+names_cause names text f h k short o false test e = read_cause names text o (names_after_text names text) f e
 
 -- the cause of too many words
 length_cause : (names : List (List ℕ)) (text : List ℕ) (f : TermFault) → syntax_fault at_start text ≡ None → outside_at false text ≡ None → (o : Option PlainTerm) (b : Bool) → nat_lt 64 (starts (tokens_in false text)) ≡ b →
-    cond b (Err faults.TooLong) (judge_names (names_after names text) (read_as o (names_after names text))) ≡ Err f → HasCause names text f
+    cond b (Err faults.TooLong) (judge_names (names_after_text names text) (read_as o (names_after_text names text))) ≡ Err f → HasCause names text f
 length_cause names text f h k o true test e =
     let r = readable_if text h k in
     cause_at names text faults.TooLong f e (record { form = r.form; is_text = r.is_text; fits = r.fits; long = omega (arith, text_words text r.form r.is_text, test_lt 64 (starts (tokens_in false text)) test) })
-length_cause names text f h k o false test e = names_cause names text f h k (test_not_lt 64 (starts (tokens_in false text)) test) o (nat_lt 4096 (length (names_after names text))) refl e
+length_cause names text f h k o false test e = names_cause names text f h k (test_not_lt 64 (starts (tokens_in false text)) test) o (nat_lt 4096 (length (names_after_text names text))) refl e
 
 -- the cause of an integer out of range
 range_cause : (names : List (List ℕ)) (text : List ℕ) (f : TermFault) → syntax_fault at_start text ≡ None → (o : Option PlainTerm) (r : Option ℕ) → outside_at false text ≡ r →
-    judge_range r (judge_length (starts (tokens_in false text)) (judge_names (names_after names text) (read_as o (names_after names text)))) ≡ Err f → HasCause names text f
+    judge_range r (judge_length (starts (tokens_in false text)) (judge_names (names_after_text names text) (read_as o (names_after_text names text)))) ≡ Err f → HasCause names text f
 range_cause names text f h o (Some at) is e =
     let found = text_if text h in
     cause_at names text (faults.IntRange at) f e (record { form = found.form; is_text = found.is_text; first = sym (text_outside text found.form found.is_text) ∙ is })
@@ -64,13 +64,13 @@ range_cause names text f h o None is e = length_cause names text f h is o (nat_l
 
 -- the cause of a byte with which no term's text goes on
 syntax_cause : (names : List (List ℕ)) (text : List ℕ) (f : TermFault) (o : Option PlainTerm) (r : Option ℕ) → syntax_fault at_start text ≡ r →
-    judge_syntax r (judge_range (outside_at false text) (judge_length (starts (tokens_in false text)) (judge_names (names_after names text) (read_as o (names_after names text))))) ≡ Err f → HasCause names text f
+    judge_syntax r (judge_range (outside_at false text) (judge_length (starts (tokens_in false text)) (judge_names (names_after_text names text) (read_as o (names_after_text names text))))) ≡ Err f → HasCause names text f
 syntax_cause names text f o (Some at) is e = cause_at names text (faults.Syntax at) f e (SyntaxAt-fault text at is)
 syntax_cause names text f o None is e = range_cause names text f is o (outside_at false text) refl e
 
 -- each refusal has its cause
 pub reading_cause : (names : List (List ℕ)) (text : List ℕ) (f : TermFault) → term_reading names text ≡ Err f → HasCause names text f
-reading_cause names text f h = syntax_cause names text f (top_of (built integer_of (number_in (names_after names text)) (tokens_in false text) [] [])) (syntax_fault at_start text) refl h
+reading_cause names text f h = syntax_cause names text f (top_of (built integer_of (number_in (names_after_text names text)) (tokens_in false text) [] [])) (syntax_fault at_start text) refl h
 
 -- so of a result: its text is the term's
 pub result_ok : (names : List (List ℕ)) (text : List ℕ) (r : Result Term TermFault) (after : List (List ℕ)) → ReadsAs (term_reading names text) r after → IfOk r (λ term. TermText names text term after)
@@ -89,7 +89,7 @@ result_cause names text (Err e) after (inl is) = reading_cause names text e is
 result_cause names text (Err e) after (inr memory) = subst (HasCause names text) (sym memory) tt
 
 -- one term
-same_term : (x y : Term × List (List ℕ)) → ◌≡◌ {A = Outcome} (Ok x) (Ok y) → x.0 ≡ y.0
+same_term : (x y : Term × List (List ℕ)) → ◌≡◌ {A = TermOutcome} (Ok x) (Ok y) → x.0 ≡ y.0
 same_term x y e = cc
 
 -- a term that the grammar has is given

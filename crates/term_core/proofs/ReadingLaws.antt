@@ -7,7 +7,7 @@ use Rattle.term_core.specs.declared.term_fault.TermFault.TheVariants as faults
 use Rattle.term_core.specs.Faults.{IsTextOf, SyntaxAt, HasCause}
 use Rattle.term_core.specs.Plain.{plain, term_of}
 use Rattle.term_core.specs.PlainTerm.{PlainTerm, map_leaves, atoms_of, term_words}
-use Rattle.term_core.specs.Reading.{Outcome, judge_syntax, judge_range, judge_length, judge_names, read_as, names_after, term_reading}
+use Rattle.term_core.specs.Reading.{TermOutcome, judge_syntax, judge_range, judge_length, judge_names, read_as, names_after_text, term_reading}
 use Rattle.term_core.specs.Scanning.{at_start, syntax_fault}
 use Rattle.term_core.specs.TermText.{TermText, number_in, names_with_all}
 use Rattle.term_core.specs.Tokens.{tokens_in, starts, built, outside_at}
@@ -23,7 +23,7 @@ use Rattle.term_core.proofs.TextForms.{text_words, text_atoms, text_built, text_
 use Rattle.term_core.proofs.Text.Options.{some_is}
 
 -- the names after a text are those with its atoms
-pub text_names : (names : List (List ℕ)) (text : List ℕ) (form : WrittenTerm) → IsTextOf text form → names_after names text ≡ names_with_all names (atoms_of form)
+pub text_names : (names : List (List ℕ)) (text : List ℕ) (form : WrittenTerm) → IsTextOf text form → names_after_text names text ≡ names_with_all names (atoms_of form)
 text_names names text form h = ap (names_with_all names) (text_atoms text form h)
 
 -- the text of a term
@@ -51,14 +51,14 @@ syntax_place text at s (Some i) e = ap Some (SyntaxAt-unique text i at (SyntaxAt
 -- each cause has its refusal
 pub cause_again : (names : List (List ℕ)) (text : List ℕ) (fault : TermFault) → (fault ≡ faults.NoMemory → ⊥) → HasCause names text fault → term_reading names text ≡ Err fault
 cause_again names text (faults.Syntax at) never h =
-    ap (λ o. judge_syntax o (judge_range (outside_at false text) (judge_length (starts (tokens_in false text)) (judge_names (names_after names text) (read_as (top_of (built integer_of (number_in (names_after names text)) (tokens_in false text) [] [])) (names_after names text))))))
+    ap (λ o. judge_syntax o (judge_range (outside_at false text) (judge_length (starts (tokens_in false text)) (judge_names (names_after_text names text) (read_as (top_of (built integer_of (number_in (names_after_text names text)) (tokens_in false text) [] [])) (names_after_text names text))))))
     (syntax_place text at h (syntax_fault at_start text) refl)
 cause_again names text (faults.IntRange at) never h =
     past_syntax names text (text_no_fault text h.form h.is_text)
-    ∙ ap (λ o. judge_range o (judge_length (starts (tokens_in false text)) (judge_names (names_after names text) (read_as (top_of (built integer_of (number_in (names_after names text)) (tokens_in false text) [] [])) (names_after names text))))) (text_outside text h.form h.is_text ∙ h.first)
+    ∙ ap (λ o. judge_range o (judge_length (starts (tokens_in false text)) (judge_names (names_after_text names text) (read_as (top_of (built integer_of (number_in (names_after_text names text)) (tokens_in false text) [] [])) (names_after_text names text))))) (text_outside text h.form h.is_text ∙ h.first)
 cause_again names text faults.TooLong never h =
     past_range names text (text_no_fault text h.form h.is_text) (text_outside text h.form h.is_text ∙ none_of_fits h.form h.fits)
-    ∙ ap (λ b. cond b (Err faults.TooLong) (judge_names (names_after names text) (read_as (top_of (built integer_of (number_in (names_after names text)) (tokens_in false text) [] [])) (names_after names text))))
+    ∙ ap (λ b. cond b (Err faults.TooLong) (judge_names (names_after_text names text) (read_as (top_of (built integer_of (number_in (names_after_text names text)) (tokens_in false text) [] [])) (names_after_text names text))))
     (many_words (starts (tokens_in false text)) (omega (arith, text_words text h.form h.is_text, h.long)))
 cause_again names text faults.Names never h =
     refuses_names names text (text_no_fault text h.form h.is_text) (text_outside text h.form h.is_text ∙ none_of_fits h.form h.fits) (omega (arith, text_words text h.form h.is_text, h.short))
@@ -70,29 +70,29 @@ record Judged (names : List (List ℕ)) (text : List ℕ) (term : Term) (after :
   no_fault : syntax_fault at_start text ≡ None
   in_range : outside_at false text ≡ None
   short : starts (tokens_in false text) ≤ 64
-  room : length (names_after names text) ≤ 4096
+  room : length (names_after_text names text) ≤ 4096
   one : PlainTerm
-  first : top_of (built integer_of (number_in (names_after names text)) (tokens_in false text) [] []) ≡ Some one
+  first : top_of (built integer_of (number_in (names_after_text names text)) (tokens_in false text) [] []) ≡ Some one
   value : term ≡ term_of one
-  named : after ≡ names_after names text
+  named : after ≡ names_after_text names text
 
 -- one after another
-un_syntax : (o : Option ℕ) (later : Outcome) (x : Term × List (List ℕ)) → judge_syntax o later ≡ Ok x → (o ≡ None) × (later ≡ Ok x)
+un_syntax : (o : Option ℕ) (later : TermOutcome) (x : Term × List (List ℕ)) → judge_syntax o later ≡ Ok x → (o ≡ None) × (later ≡ Ok x)
 un_syntax None later x h = (refl, h)
 un_syntax (Some at) later x h = cc
 
 -- the range
-un_range : (o : Option ℕ) (later : Outcome) (x : Term × List (List ℕ)) → judge_range o later ≡ Ok x → (o ≡ None) × (later ≡ Ok x)
+un_range : (o : Option ℕ) (later : TermOutcome) (x : Term × List (List ℕ)) → judge_range o later ≡ Ok x → (o ≡ None) × (later ≡ Ok x)
 un_range None later x h = (refl, h)
 un_range (Some at) later x h = cc
 
 -- a test
-un_test : (b : Bool) (f : TermFault) (later : Outcome) (x : Term × List (List ℕ)) → cond b (Err f) later ≡ Ok x → (b ≡ false) × (later ≡ Ok x)
+un_test : (b : Bool) (f : TermFault) (later : TermOutcome) (x : Term × List (List ℕ)) → cond b (Err f) later ≡ Ok x → (b ≡ false) × (later ≡ Ok x)
 un_test true f later x h = cc
 un_test false f later x h = (refl, h)
 
 -- a pair that is read
-same_pair : (x y : Term × List (List ℕ)) → ◌≡◌ {A = Outcome} (Ok x) (Ok y) → x ≡ y
+same_pair : (x y : Term × List (List ℕ)) → ◌≡◌ {A = TermOutcome} (Ok x) (Ok y) → x ≡ y
 same_pair x y e = cc
 
 -- the term and the names that are read
@@ -116,16 +116,16 @@ judged names text term after h =
     let a = un_syntax (syntax_fault at_start text) _ (term, after) h in
     let b = un_range (outside_at false text) _ (term, after) a.1 in
     let c = un_test (nat_lt 64 (starts (tokens_in false text))) faults.TooLong _ (term, after) b.1 in
-    let d = un_test (nat_lt 4096 (length (names_after names text))) faults.Names _ (term, after) c.1 in
-    let e = un_read (top_of (built integer_of (number_in (names_after names text)) (tokens_in false text) [] [])) (names_after names text) term after d.1 in
-    record { no_fault = a.0; in_range = b.0; short = small_words (starts (tokens_in false text)) c.0; room = small_names (length (names_after names text)) d.0; one = e.0; first = e.1; value = e.2; named = e.3 }
+    let d = un_test (nat_lt 4096 (length (names_after_text names text))) faults.Names _ (term, after) c.1 in
+    let e = un_read (top_of (built integer_of (number_in (names_after_text names text)) (tokens_in false text) [] [])) (names_after_text names text) term after d.1 in
+    record { no_fault = a.0; in_range = b.0; short = small_words (starts (tokens_in false text)) c.0; room = small_names (length (names_after_text names text)) d.0; one = e.0; first = e.1; value = e.2; named = e.3 }
 
 -- a text that is read is the term's
 pub reading_is : (names : List (List ℕ)) (text : List ℕ) (term : Term) (after : List (List ℕ)) → term_reading names text ≡ Ok (term, after) → TermText names text term after
 reading_is names text term after h =
     let j = judged names text term after h in
     let r = readable_if text j.no_fault j.in_range in
-    let built_one = text_built integer_of (number_in (names_after names text)) text r.form r.is_text in
+    let built_one = text_built integer_of (number_in (names_after_text names text)) text r.form r.is_text in
     record {
       form = r.form;
       whole = r.is_text.whole;

@@ -20,8 +20,8 @@ abbrev pub given_names : List (List ℕ)
 given_names = codes "true" ∷ codes "false" ∷ codes "ok" ∷ []
 
 -- the texts of a set of strings, in its order
-abbrev pub texts_of : {Y S : Type 0} → HashSet (String Y) S → List (List ℕ)
-texts_of set = map string_bytes set.keys
+abbrev pub set_texts : {Y S : Type 0} → HashSet (String Y) S → List (List ℕ)
+set_texts set = map string_bytes set.keys
 
 -- the number of a text: the place at which it stands, or none
 abbrev pub number_of : List (List ℕ) → List ℕ → Option ℕ

@@ -18,10 +18,10 @@ rest_of (gnum n) = gnil
 rest_of (gcons a b) = b
 
 -- 0 of what has no front, else 1
-abbrev kind : Gv → ℕ
-kind gnil = 0
-kind (gnum n) = 0
-kind (gcons a b) = 1
+abbrev front_kind : Gv → ℕ
+front_kind gnil = 0
+front_kind (gnum n) = 0
+front_kind (gcons a b) = 1
 
 -- what stands in front of a tree tells integers, atoms, tuples and lists apart
 abbrev mutual
@@ -52,8 +52,8 @@ mutual
   -- the same of rows
   pub code_row_injective : (r s : RowOf ℤ ℕ) → code_row r ≡ code_row s → r ≡ s
   code_row_injective no_terms no_terms p = refl
-  code_row_injective no_terms (term_then t row) p = absurd (omega (arith, ap kind p))
-  code_row_injective (term_then t row) no_terms p = absurd (omega (arith, ap kind p))
+  code_row_injective no_terms (term_then t row) p = absurd (omega (arith, ap front_kind p))
+  code_row_injective (term_then t row) no_terms p = absurd (omega (arith, ap front_kind p))
   code_row_injective (term_then t row) (term_then u other) p =
       λ i. term_then (code_term_injective t u (ap front_of p) i) (code_row_injective row other (ap rest_of p) i)
 

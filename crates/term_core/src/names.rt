@@ -1,6 +1,6 @@
 ghost use Rattle.std.specs.Prelude.{◌≡◌, ◌↔◌, IsTrue, IsAscii, IfOk, OnOk, OnErr, IsErrOf, None, length, slice_get, option_map};
 ghost use Rattle.std.specs.List.{list_all};
-ghost use Rattle.term_core.specs.Names.{IsNames, AtomText, is_name_byte, is_atom_text as is_text_of_atom, number_of, names_with, given_names, texts_of};
+ghost use Rattle.term_core.specs.Names.{IsNames, AtomText, is_name_byte, is_atom_text as is_text_of_atom, number_of, names_with, given_names, set_texts};
 
 use crate::atom::AtomId;
 use crate::no_memory::NoMemory;
@@ -90,8 +90,8 @@ pub(crate) fn ascii_text(bytes: &[u8]) -> &str
 }
 
 fn insert_text(texts: &mut IndexSet<String>, text: &str) -> Result<(), NoMemory>
-    ensures ok { OnOk result (texts_of texts.new ≡ names_with (texts_of texts.old) text.now) }
-    ensures err { OnErr result (texts_of texts.new ≡ texts_of texts.old) }
+    ensures ok { OnOk result (set_texts texts.new ≡ names_with (set_texts texts.old) text.now) }
+    ensures err { OnErr result (set_texts texts.new ≡ set_texts texts.old) }
 {
     let owned = String::from_str(*texts.allocator(), text)?;
     texts.insert(owned)?;
@@ -108,13 +108,13 @@ pub struct Names {
 
 impl Model for Names {
     ghost use Rattle.std.specs.Prelude.{ℕ, List};
-    ghost use Rattle.term_core.specs.Names.{IsNames, texts_of};
+    ghost use Rattle.term_core.specs.Names.{IsNames, set_texts};
 
     ghost Value = { List (List ℕ) };
 
-    ghost view = { λ names. texts_of names.texts };
+    ghost view = { λ names. set_texts names.texts };
 
-    ghost invariant = { λ names. IsNames (texts_of names.texts) };
+    ghost invariant = { λ names. IsNames (set_texts names.texts) };
 }
 
 impl Names {

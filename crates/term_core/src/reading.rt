@@ -2,7 +2,7 @@ ghost use Rattle.std.specs.Prelude.{◌≡◌, ◌<◌, ◌⊎◌, ◌∷◌, []
 ghost use Rattle.term_core.specs.Faults.{IsReadable};
 ghost use Rattle.term_core.specs.Names.{IsNames, Extends};
 ghost use Rattle.term_core.specs.Plain.{plain};
-ghost use Rattle.term_core.specs.Reading.{ReadsAs, term_reading, names_after};
+ghost use Rattle.term_core.specs.Reading.{ReadsAs, term_reading, names_after_text};
 ghost use Rattle.term_core.specs.TermText.{number_in};
 ghost use Rattle.term_core.specs.Tokens.{tokens_in, built};
 ghost use Rattle.term_core.specs.Written.{integer_of};
@@ -21,8 +21,8 @@ use std::alloc::Global;
 fn build_term(alloc: Global, names: &mut Names, text: &[u8]) -> Result<Term, TermFault>
     requires { IsReadable text.now }
     ensures ok { IfOk result (λ term. built integer_of (number_in names.new) (tokens_in false text.now) [] [] ≡ plain term ∷ []) }
-    ensures named { OnOk result (names.new ≡ names_after names.old text.now) }
-    ensures fault { IfErr result (λ fault. ((fault ≡ TermFault.Names) × (MOST_NAMES < length (names_after names.old text.now))) ⊎ (fault ≡ TermFault.NoMemory)) }
+    ensures named { OnOk result (names.new ≡ names_after_text names.old text.now) }
+    ensures fault { IfErr result (λ fault. ((fault ≡ TermFault.Names) × (MOST_NAMES < length (names_after_text names.old text.now))) ⊎ (fault ≡ TermFault.NoMemory)) }
     ensures grown { Extends names.old names.new }
     ensures sound { IsNames names.new }
 {

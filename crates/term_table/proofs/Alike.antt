@@ -4,7 +4,7 @@ use Rattle.std.specs.Prelude.{IsSomeAnd, IsTrue}
 use Rattle.std.specs.Option.{option_map}
 use Rattle.area_core.specs.declared.table.Published.{Published}
 use Rattle.area_core.specs.Generations.{is_term_word}
-use Rattle.area_core.specs.Terms.{key_in, value_in, look_at, looked, outcome, bucket_of, found_in, TermsStand}
+use Rattle.area_core.specs.Terms.{key_in, bucket_value, look_at, looked, found_outcome, bucket_of, found_in, TermsStand}
 use Rattle.area_core.proofs.Counted.{looked_none, looked_suc}
 use Rattle.area_core.proofs.Buckets.{has_key}
 use Rattle.term_table.specs.Built.{held_in, IsBuilt, IsTable}
@@ -15,7 +15,7 @@ module _ (a b : ℕ → ℕ) (same : (at : ℕ) → at < 1024 → a at ≡ b at)
   keys_same : (c : ℕ) → c < 512 → key_in a c ≡ key_in b c
   keys_same c few = same (c * 2) (omega (arith, few))
 
-  values_same : (c : ℕ) → c < 512 → value_in a c ≡ value_in b c
+  values_same : (c : ℕ) → c < 512 → bucket_value a c ≡ bucket_value b c
   values_same c few = same (c * 2 + 1) (omega (arith, few))
 
   look_same : (key c : ℕ) (known : Option (Option ℕ)) → c < 512 → look_at a key c known ≡ look_at b key c known
@@ -28,15 +28,15 @@ module _ (a b : ℕ → ℕ) (same : (at : ℕ) → at < 1024 → a at ≡ b at)
 
   -- a search ends in the same bucket
   pub bucket_same : (key : ℕ) → bucket_of a key ≡ bucket_of b key
-  bucket_same key = ap outcome (looked_same key 512)
+  bucket_same key = ap found_outcome (looked_same key 512)
 
   -- and finds the same
   pub found_same : (key : ℕ) → found_in a key ≡ found_in b key
   found_same key = by_bucket (bucket_of b key) refl
     where
       by_bucket : (o : Option ℕ) → bucket_of b key ≡ o → found_in a key ≡ found_in b key
-      by_bucket None is = ap (option_map (value_in a)) (bucket_same key ∙ is) ∙ sym (ap (option_map (value_in b)) is)
-      by_bucket (Some c) is = ap (option_map (value_in a)) (bucket_same key ∙ is) ∙ ap Some (values_same c (has_key b key c is).within) ∙ sym (ap (option_map (value_in b)) is)
+      by_bucket None is = ap (option_map (bucket_value a)) (bucket_same key ∙ is) ∙ sym (ap (option_map (bucket_value b)) is)
+      by_bucket (Some c) is = ap (option_map (bucket_value a)) (bucket_same key ∙ is) ∙ ap Some (values_same c (has_key b key c is).within) ∙ sym (ap (option_map (bucket_value b)) is)
 
   -- as many keys are held
   pub counted_same : held_in b 512 ≡ held_in a 512

@@ -8,7 +8,7 @@ use Rattle.area_core.specs.Map.{term_place}
 use Rattle.area_core.specs.Step.{opening_published}
 use Rattle.area_core.specs.Terms.{found_in, TermsStand}
 use Rattle.shared_words.specs.declared.view.WriterView.{WriterView}
-use Rattle.shared_words.specs.Views.{newest, published_at}
+use Rattle.shared_words.specs.Views.{newest_number, published_at}
 use Rattle.term_table.specs.Built.{held_in}
 use Rattle.term_table.proofs.Filled.{empty_built, empty_counted, empty_found}
 use Rattle.progress_words.specs.Roots.{newest_of}
@@ -25,7 +25,7 @@ only x p zero at = cc
 only x p (suc g) at = absurd (no_element g at)
 
 newest_first : (w : WriterView) → IsAtFirst w → newest_of w ≡ opening_published
-newest_first w is = ap (λ (ps : List Published). published_at ps (newest ps)) is.published
+newest_first w is = ap (λ (ps : List Published). published_at ps (newest_number ps)) is.published
 
 pub owned_first : (t : Terms) (w : WriterView) → t.staged ≡ None → length t.needs ≡ 4 → IsAtFirst w → IsTableOf t w
 owned_first t w nothing long is = record {

@@ -12,7 +12,7 @@ use Rattle.shared_words.specs.declared.opening.Opening.{Opening}
 use Rattle.shared_words.specs.declared.seats.Writer as writers
 use Rattle.shared_words.specs.declared.view.View.TheVariants.{Writer}
 use Rattle.shared_words.specs.declared.view.WriterView.{WriterView}
-use Rattle.shared_words.specs.Views.{newest}
+use Rattle.shared_words.specs.Views.{newest_number}
 use Rattle.shared_words.specs.Publishing.{FitsInBlock, FitsWord, MayStoreWord, MayLoadWord, with_word, kept_left}
 use Rattle.shared_words.proofs.ShownMembers.{there_is}
 use Rattle.progress_words.specs.Tokens.{written_by, IsWriterOf, IsSameWriter}
@@ -37,8 +37,8 @@ same_on old now next first last = record {
 -- ---- loads
 
 -- the newest generation stands at its number
-pub newest_there : (w : WriterView) → 0 < length w.published → slice_get w.published (newest w.published) ≡ Some (newest_of w)
-newest_there w some = there_is w.published (newest w.published) opening_published (omega (arith, some))
+pub newest_there : (w : WriterView) → 0 < length w.published → slice_get w.published (newest_number w.published) ≡ Some (newest_of w)
+newest_there w some = there_is w.published (newest_number w.published) opening_published (omega (arith, some))
 
 -- the writer may load a word of the active table
 pub may_load : (w : WriterView) (table at : ℕ) → 0 < length w.published → table < 4 → table ≡ active_table w → at < 1024 → MayLoadWord (term_place table at) (Writer w)

@@ -15,8 +15,8 @@ use Rattle.term_core.specs.declared.generation.Holding.TheVariants.{Word, Area}
 use Rattle.area_core.specs.declared.table.Published.{Published}
 use Rattle.area_core.specs.Map.{kind_at, term_place}
 use Rattle.area_core.specs.Generations.{is_term_word, is_area_word}
-use Rattle.area_core.specs.Blocks.{Blocks, BlockInvariant, Among, term_words}
-use Rattle.area_core.specs.Terms.{value_in, looked, outcome, bucket_of, TermsStand}
+use Rattle.area_core.specs.Blocks.{Blocks, BlockInvariant, Among, term_blocks_words}
+use Rattle.area_core.specs.Terms.{bucket_value, looked, found_outcome, bucket_of, TermsStand}
 use Rattle.area_core.specs.Readers.{is_read_under, held_by_member}
 use Rattle.area_core.specs.Step.{opening_published}
 use Rattle.area_core.proofs.Tests.{passed_by}
@@ -30,7 +30,7 @@ use Rattle.shared_words.proofs.ShownMembers.{there_is}
 use Rattle.shared_words.proofs.KeptWords.{steady_in_front}
 use Rattle.progress_words.specs.Tokens.{view_of, IsMemberOf, IsSameMember}
 use Rattle.progress_words.specs.Reports.{IsAwake}
-use Rattle.term_table.specs.Keys.{Lacks, Holds, EachHolds, IsHeld, HasPlainWords}
+use Rattle.term_table.specs.Keys.{Lacks, HoldsTerm, EachHolds, IsHeld, HasPlainWords}
 use Rattle.term_table.specs.Looked.{found_of, MayReadTable, HasReadWord, HasRead}
 use Rattle.term_table.proofs.Searching.{place_of, place_within, begun, looked_on, look_none, look_here, found_last}
 use Rattle.term_table.proofs.TablePlaces.{table_kind, reads_own}
@@ -89,7 +89,7 @@ module _ (m : MemberView) (table : ℕ) (may : MayReadTable table m) (under : Ar
   p = held_by_view m
 
   abbrev block : ℕ → ℕ
-  block = term_words under.blocks.word p.root
+  block = term_blocks_words under.blocks.word p.root
 
   stands : TermsStand block p
   stands = under.stands.terms_stand m.member.generation p refl under.published
@@ -117,7 +117,7 @@ module _ (m : MemberView) (table : ℕ) (may : MayReadTable table m) (under : Ar
       ap (looked block key) e ∙ looked_on block key n before (λ none. last.1 (sym is ∙ none)) (λ own. last.2 (sym is ∙ own))
 
   none_found : (key : ℕ) → bucket_of block key ≡ None → Lacks p key
-  none_found key none = lacks block p key stands (ap (option_map (value_in block)) none)
+  none_found key none = lacks block p key stands (ap (option_map (bucket_value block)) none)
 
   -- an empty bucket, or no other one
   pub lacks_empty : (key n : ℕ) → n < 512 → ((i : ℕ) → i < n → (value : ℕ) × (value ≢ 0) × (value ≢ key + 1) × IsFound m table (place_of key i * 2) value) → IsFound m table (place_of key n * 2) 0 → Lacks p key
@@ -126,7 +126,7 @@ module _ (m : MemberView) (table : ℕ) (may : MayReadTable table m) (under : Ar
       none_found key (found_last block key n None few (passed_none key n passed) (look_none block key (place_of key n) (word_found (place_of key n * 2) 0 (omega (arith, within)) empty)))
 
   pub lacks_all : (key : ℕ) → ((i : ℕ) → i < 512 → (value : ℕ) × (value ≢ 0) × (value ≢ key + 1) × IsFound m table (place_of key i * 2) value) → Lacks p key
-  lacks_all key passed = none_found key (ap outcome (passed_none key 512 passed))
+  lacks_all key passed = none_found key (ap found_outcome (passed_none key 512 passed))
 
   -- a bucket of the key
   pub finds_key : (key n value : ℕ) → n < 512 → ((i : ℕ) → i < n → (value : ℕ) × (value ≢ 0) × (value ≢ key + 1) × IsFound m table (place_of key i * 2) value) → IsFound m table (place_of key n * 2) (key + 1) → IsFound m table (place_of key n * 2 + 1) value → IsKeyOf p key value
@@ -134,7 +134,7 @@ module _ (m : MemberView) (table : ℕ) (may : MayReadTable table m) (under : Ar
       let within = place_within key n in
       let bucket = found_last block key n (Some (place_of key n)) few (passed_none key n passed) (look_here block key (place_of key n) (word_found (place_of key n * 2) (key + 1) (omega (arith, within)) own)) in
       let is = word_found (place_of key n * 2 + 1) value (omega (arith, within)) here in
-      key_found block p key value stands (ap (option_map (value_in block)) bucket ∙ ap Some is)
+      key_found block p key value stands (ap (option_map (bucket_value block)) bucket ∙ ap Some is)
 
 -- ---- what is answered
 
@@ -185,12 +185,12 @@ module _ (p : Published) (key value : ℕ) (k : IsKeyOf p key value) where
       by_holding : (holding : Holding) → k.term.holding ≡ holding → is_term_word p holding value ≡ true → IsHeld p key (found_of value)
       by_holding (Word word) holds is =
           let same : value ≡ word = eqb-true value word is in
-          let here : Holds p key (Word value) = record { term = k.term; among = k.among; key_is = k.key_is; holding_is = holds ∙ ap Word (sym same) } in
+          let here : HoldsTerm p key (Word value) = record { term = k.term; among = k.among; key_is = k.key_is; holding_is = holds ∙ ap Word (sym same) } in
           let differ = plain key value here in
           subst (IsHeld p key) (sym (ap (λ t. cond t (founds.Area (record { serial = value / 8192; block = value / 16 % 512 })) (founds.Word value)) (ne_eqb (value % 16) 5 differ))) (here, each_word differ)
       by_holding (Area serial) holds is =
           let area = area_of serial is in
-          let held : Holds p key (Area (value / 8192)) = record { term = k.term; among = k.among; key_is = k.key_is; holding_is = holds ∙ ap Area (sym area.1) } in
+          let held : HoldsTerm p key (Area (value / 8192)) = record { term = k.term; among = k.among; key_is = k.key_is; holding_is = holds ∙ ap Area (sym area.1) } in
           subst (IsHeld p key) (sym (ap (λ t. cond t (founds.Area (record { serial = value / 8192; block = value / 16 % 512 })) (founds.Word value)) (eq-eqb (value % 16) 5 area.0))) (held, each_area plain area.0, area.2)
 
 -- ---- the loop

@@ -15,7 +15,7 @@ use Rattle.area_core.specs.Step.{to_publish}
 use Rattle.area_core.specs.Terms.{TermsStand}
 use Rattle.area_core.proofs.RootTests.{in_either}
 use Rattle.shared_words.specs.declared.view.WriterView.{WriterView}
-use Rattle.shared_words.specs.Views.{newest, published_at}
+use Rattle.shared_words.specs.Views.{newest_number, published_at}
 use Rattle.shared_words.specs.Kinds.{counter_kept}
 use Rattle.shared_words.specs.Publishing.{MayPublish, kept_next, with_next}
 use Rattle.shared_words.proofs.ShownMembers.{still_at}
@@ -88,12 +88,12 @@ module _ (Served : Published → Type 0) (t : Terms) (w : WriterView) (state : G
         ]
 
     abbrev last : Retirement
-    last = record { generation = newest (w.published ++ p ∷ []); need = counter + 2 }
+    last = record { generation = newest_number (w.published ++ p ∷ []); need = counter + 2 }
 
     -- the table that was active is free once the value is reached
     active_past : (table : ℕ) → table ≡ active_table w → IsPast after table (counter + 2)
     active_past table is = record {
-      generation = newest (w.published ++ p ∷ []);
+      generation = newest_number (w.published ++ p ∷ []);
       taken = (length w.pairs, last_get w.pairs last);
       before = λ g q at has. ⊎_elim
           (λ (old : slice_get w.published g ≡ Some q). let within = slice_get_within w.published g q old in let next = newest_next w.published p in omega (arith, within, next))

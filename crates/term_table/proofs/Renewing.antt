@@ -4,11 +4,11 @@ use Rattle.std.specs.Prelude.{◌==◌, nat_lt}
 use Rattle.std.specs.Option.{option_map}
 use Rattle.std.proofs.lemmas.Bool.{eq-eqb, ne_eqb, cases_eq, cases_lt, lt-ltb, le-ltb}
 use Rattle.term_core.specs.declared.atom.AtomId.{AtomId}
-use Rattle.area_core.specs.Terms.{key_in, value_in, bucket_of, found_in}
+use Rattle.area_core.specs.Terms.{key_in, bucket_value, bucket_of, found_in}
 use Rattle.area_core.proofs.Buckets.{has_key}
 use Rattle.term_table.specs.declared.change.Change.TheVariants.{Put, Erase}
 use Rattle.term_table.specs.declared.buckets.Buckets.{Buckets}
-use Rattle.term_table.specs.Built.{held_in, IsBuilt, words_of, AreBuilt, HasInserted, HasRebuilt, with_found, counts}
+use Rattle.term_table.specs.Built.{held_in, IsBuilt, words_of, AreBuilt, HasInserted, HasRebuilt, with_found, key_count}
 use Rattle.term_table.proofs.Searching.{built_at, not_found}
 use Rattle.term_table.proofs.Counting.{held_none, held_more, held_same, held_few}
 use Rattle.term_table.proofs.Filled.{empty_built, empty_found, empty_counted}
@@ -16,7 +16,7 @@ use Rattle.term_table.proofs.Filled.{empty_built, empty_found, empty_counted}
 -- what is found of a key that stands in this bucket, once so many buckets are gone through
 abbrev passed : (ℕ → ℕ) → ℕ → ℕ → ℕ → Option ℕ → Option ℕ
 passed held gone n other None = None
-passed held gone n other (Some c) = cond (nat_lt c n && not (other == gone)) (Some (value_in held c)) None
+passed held gone n other (Some c) = cond (nat_lt c n && not (other == gone)) (Some (bucket_value held c)) None
 
 -- whether the bucket is gone through
 abbrev gone_by : ℕ → Option ℕ → ℕ
@@ -40,7 +40,7 @@ module _ (held : Buckets) (gone : ℕ) where
 
   none_passed : (other : ℕ) (o : Option ℕ) → passed block gone 0 other o ≡ None
   none_passed other None = refl
-  none_passed other (Some c) = ap (λ (t : Bool). cond (t && not (other == gone)) (Some (value_in block c)) None) (not_under c 0 (omega (arith)))
+  none_passed other (Some c) = ap (λ (t : Bool). cond (t && not (other == gone)) (Some (bucket_value block c)) None) (not_under c 0 (omega (arith)))
 
   none_gone : (o : Option ℕ) → gone_by 0 o ≡ 0
   none_gone None = refl
@@ -63,7 +63,7 @@ module _ (held : Buckets) (gone : ℕ) where
 
   same_passed : (n other : ℕ) (o : Option ℕ) → o ≢ Some n → passed block gone (n + 1) other o ≡ passed block gone n other o
   same_passed n other None differ = refl
-  same_passed n other (Some c) differ = ap (λ (t : Bool). cond (t && not (other == gone)) (Some (value_in block c)) None) (same_test c n (λ same. differ (ap Some same)))
+  same_passed n other (Some c) differ = ap (λ (t : Bool). cond (t && not (other == gone)) (Some (bucket_value block c)) None) (same_test c n (λ same. differ (ap Some same)))
 
   same_gone : (n : ℕ) (o : Option ℕ) → o ≢ Some n → gone_by (n + 1) o ≡ gone_by n o
   same_gone n None differ = refl
@@ -102,8 +102,8 @@ module _ (held : Buckets) (gone : ℕ) where
         no_one m None = refl
         no_one m (Some c) = off (nat_lt c m)
           where
-            off : (t : Bool) → cond (t && not (gone == gone)) (Some (value_in block c)) None ≡ None
-            off true = ap (λ (u : Bool). cond (not u) (Some (value_in block c)) None) (eq-eqb gone gone refl)
+            off : (t : Bool) → cond (t && not (gone == gone)) (Some (bucket_value block c)) None ≡ None
+            off true = ap (λ (u : Bool). cond (not u) (Some (bucket_value block c)) None) (eq-eqb gone gone refl)
             off false = refl
 
         left : (other : ℕ) → passed block gone n other (bucket_of block other) ≡ passed block gone (n + 1) other (bucket_of block other)
@@ -125,10 +125,10 @@ module _ (held : Buckets) (gone : ℕ) where
 
       -- it is not held yet
       pub not_yet : bucket_of (words_of before) key ≡ None
-      not_yet = not_found (bucket_of (words_of before) key) (value_in (words_of before))
-          (h.found key ∙ ap (passed block gone n key) here ∙ ap (λ (t : Bool). cond (t && not (key == gone)) (Some (value_in block n)) None) (not_under n n (omega (arith))))
+      not_yet = not_found (bucket_of (words_of before) key) (bucket_value (words_of before))
+          (h.found key ∙ ap (passed block gone n key) here ∙ ap (λ (t : Bool). cond (t && not (key == gone)) (Some (bucket_value block n)) None) (not_under n n (omega (arith))))
 
-      pub rebuilt_more : (after : Buckets) → HasInserted key (value_in block n) before after → IsRebuilt held gone (n + 1) after
+      pub rebuilt_more : (after : Buckets) → HasInserted key (bucket_value block n) before after → IsRebuilt held gone (n + 1) after
       rebuilt_more after put = record {
         built = put.built;
         found = λ other. put.found other ∙ more other;
@@ -140,15 +140,15 @@ module _ (held : Buckets) (gone : ℕ) where
             omega (arith, one, two, three, four);
       }
         where
-          more : (other : ℕ) → with_found key (value_in block n) (found_in (words_of before)) other ≡ passed block gone (n + 1) other (bucket_of block other)
+          more : (other : ℕ) → with_found key (bucket_value block n) (found_in (words_of before)) other ≡ passed block gone (n + 1) other (bucket_of block other)
           more other =
-              elim (cases_eq other key) as (λ _. cond (other == key) (Some (value_in block n)) (found_in (words_of before) other) ≡ passed block gone (n + 1) other (bucket_of block other)) [
+              elim (cases_eq other key) as (λ _. cond (other == key) (Some (bucket_value block n)) (found_in (words_of before) other) ≡ passed block gone (n + 1) other (bucket_of block other)) [
                 | inl same ↦
-                    ap (λ (t : Bool). cond t (Some (value_in block n)) (found_in (words_of before) other)) (eq-eqb other key same)
+                    ap (λ (t : Bool). cond t (Some (bucket_value block n)) (found_in (words_of before) other)) (eq-eqb other key same)
                     ∙ sym ((λ i. passed block gone (n + 1) (same i) (bucket_of block (same i))) ∙ ap (passed block gone (n + 1) key) here
-                    ∙ (λ i. cond (lt-ltb n (n + 1) (omega (arith)) i && not (ne_eqb key gone kept i)) (Some (value_in block n)) None))
+                    ∙ (λ i. cond (lt-ltb n (n + 1) (omega (arith)) i && not (ne_eqb key gone kept i)) (Some (bucket_value block n)) None))
                 | inr differ ↦
-                    ap (λ (t : Bool). cond t (Some (value_in block n)) (found_in (words_of before) other)) (ne_eqb other key differ)
+                    ap (λ (t : Bool). cond t (Some (bucket_value block n)) (found_in (words_of before) other)) (ne_eqb other key differ)
                     ∙ h.found other ∙ sym (same_passed n other (bucket_of block other) (not_here other (λ one. differ (omega (arith, one, is)))))
               ]
 
@@ -175,7 +175,7 @@ module _ (held : Buckets) (gone : ℕ) (built : AreBuilt held) (n : ℕ) (within
     step_new = not_yet held gone built.built n within before h (word - 1) key_is kept
 
     -- and then it is
-    pub step_more : (value : ℕ) (after : Buckets) → value ≡ value_in (words_of held) n → HasInserted (word - 1) value before after → IsRebuilt held gone (n + 1) after
+    pub step_more : (value : ℕ) (after : Buckets) → value ≡ bucket_value (words_of held) n → HasInserted (word - 1) value before after → IsRebuilt held gone (n + 1) after
     step_more value after is put =
         rebuilt_more held gone built.built n within before h (word - 1) key_is kept after (subst (λ (v : ℕ). HasInserted (word - 1) v before after) is put)
 
@@ -189,19 +189,19 @@ rebuilt_all held built gone h = record {
   counted = let one = h.counted in let two = counts_gone (bucket_of (words_of held) gone.0) refl in omega (arith, one, two);
 }
   where
-    by_bucket : (key : ℕ) (o : Option ℕ) → bucket_of (words_of held) key ≡ o → passed (words_of held) gone.0 512 key o ≡ cond (key == gone.0) None (option_map (value_in (words_of held)) o)
+    by_bucket : (key : ℕ) (o : Option ℕ) → bucket_of (words_of held) key ≡ o → passed (words_of held) gone.0 512 key o ≡ cond (key == gone.0) None (option_map (bucket_value (words_of held)) o)
     by_bucket key None is = same_none (key == gone.0)
       where
         same_none : (t : Bool) → None ≡ cond {A = Option ℕ} t None None
         same_none true = refl
         same_none false = refl
-    by_bucket key (Some c) is = ap (λ (t : Bool). cond (t && not (key == gone.0)) (Some (value_in (words_of held) c)) None) (lt-ltb c 512 (has_key (words_of held) key c is).within) ∙ turned (key == gone.0)
+    by_bucket key (Some c) is = ap (λ (t : Bool). cond (t && not (key == gone.0)) (Some (bucket_value (words_of held) c)) None) (lt-ltb c 512 (has_key (words_of held) key c is).within) ∙ turned (key == gone.0)
       where
-        turned : (t : Bool) → cond (not t) (Some (value_in (words_of held) c)) None ≡ cond t None (Some (value_in (words_of held) c))
+        turned : (t : Bool) → cond (not t) (Some (bucket_value (words_of held) c)) None ≡ cond t None (Some (bucket_value (words_of held) c))
         turned true = refl
         turned false = refl
 
-    counts_gone : (o : Option ℕ) → bucket_of (words_of held) gone.0 ≡ o → gone_by 512 o ≡ counts (option_map (value_in (words_of held)) o)
+    counts_gone : (o : Option ℕ) → bucket_of (words_of held) gone.0 ≡ o → gone_by 512 o ≡ key_count (option_map (bucket_value (words_of held)) o)
     counts_gone None is = refl
     counts_gone (Some c) is = ap (λ (t : Bool). cond {A = ℕ} t 1 0) (lt-ltb c 512 (has_key (words_of held) gone.0 c is).within)
 
@@ -211,7 +211,7 @@ module _ (held without : Buckets) (key : AtomId) (h : HasRebuilt (Erase key) hel
 
   -- the key that is left out is not held
   pub is_gone : bucket_of (words_of without) key.0 ≡ None
-  is_gone = not_found (bucket_of (words_of without) key.0) (value_in (words_of without)) none_held
+  is_gone = not_found (bucket_of (words_of without) key.0) (bucket_value (words_of without)) none_held
 
   -- and there is room for it
   pub room_left : held_in (words_of held) 512 ≤ 384 → held_in (words_of without) 512 < 512

@@ -3,7 +3,7 @@ use Rattle.std.proofs.Common.{◌≡◌, ◌≢◌, ℕ, zero, suc, ◌+◌, ◌
 use Rattle.std.specs.Prelude.{◌==◌}
 use Rattle.std.specs.Option.{option_map}
 use Rattle.std.proofs.lemmas.Bool.{eq-eqb, ne_eqb, cases_eq, cases_lt}
-use Rattle.area_core.specs.Terms.{key_in, value_in, look_at, looked, outcome, bucket_of, found_in}
+use Rattle.area_core.specs.Terms.{key_in, bucket_value, look_at, looked, found_outcome, bucket_of, found_in}
 use Rattle.area_core.proofs.Counted.{looked_none, looked_suc}
 use Rattle.area_core.proofs.Buckets.{has_key}
 use Rattle.term_table.specs.Built.{IsBuilt, IsFree, with_found}
@@ -54,9 +54,9 @@ pub looked_more : (block : ℕ → ℕ) (key n : ℕ) → looked block key n ≡
 looked_more block key n is = looked_suc block key n ∙ ap (look_at block key (place_of key n)) is
 
 pub found_last : (block : ℕ → ℕ) (key n : ℕ) (known : Option ℕ) → n < 512 → looked block key n ≡ None → look_at block key (place_of key n) None ≡ Some known → bucket_of block key ≡ known
-found_last block key n known few is last = ap outcome (looked_stays block key (suc n) 512 known (omega (arith, few)) (looked_more block key n is ∙ last))
+found_last block key n known few is last = ap found_outcome (looked_stays block key (suc n) 512 known (omega (arith, few)) (looked_more block key n is ∙ last))
 
-known_bucket : (known : Option (Option ℕ)) (b : ℕ) → outcome known ≡ Some b → known ≡ Some (Some b)
+known_bucket : (known : Option (Option ℕ)) (b : ℕ) → found_outcome known ≡ Some b → known ≡ Some (Some b)
 known_bucket None b e = absurd (cc)
 known_bucket (Some found) b e = ap Some e
 
@@ -110,9 +110,9 @@ not_found (Some b) f e = absurd (cc)
 -- the words have this key in this bucket besides
 pub record IsPut (bucket key value : ℕ) (block after : ℕ → ℕ) : Type 0 where
   pub key_is : key_in after bucket ≡ key + 1
-  pub value_is : value_in after bucket ≡ value
+  pub value_is : bucket_value after bucket ≡ value
   pub keys : (c : ℕ) → c ≢ bucket → key_in after c ≡ key_in block c
-  pub values : (c : ℕ) → c ≢ bucket → value_in after c ≡ value_in block c
+  pub values : (c : ℕ) → c ≢ bucket → bucket_value after c ≡ bucket_value block c
 
 module _ (block after : ℕ → ℕ) (key value b : ℕ) (built : IsBuilt block) (new : bucket_of block key ≡ None) (free : IsFree block key b) (put : IsPut b key value block after) where
   within : b < 512
@@ -139,11 +139,11 @@ module _ (block after : ℕ → ℕ) (key value b : ℕ) (built : IsBuilt block)
             let same = put.keys c differ in
             let was : bucket_of block (key_in block c - 1) ≡ Some c = built c inside (λ empty. full (same ∙ empty)) in
             let known : looked block (key_in block c - 1) 512 ≡ Some (Some c) = known_bucket (looked block (key_in block c - 1) 512) c was in
-            ap (λ (n : ℕ). bucket_of after (n - 1)) same ∙ ap outcome (search_kept block after (key_in block c - 1) 512 (Some (Some c)) full_kept known (λ e. absurd (cc))))
+            ap (λ (n : ℕ). bucket_of after (n - 1)) same ∙ ap found_outcome (search_kept block after (key_in block c - 1) 512 (Some (Some c)) full_kept known (λ e. absurd (cc))))
       ]
 
-  value_found : (other c : ℕ) → bucket_of after other ≡ Some c → found_in after other ≡ Some (value_in after c)
-  value_found other c is = ap (option_map (value_in after)) is
+  value_found : (other c : ℕ) → bucket_of after other ≡ Some c → found_in after other ≡ Some (bucket_value after c)
+  value_found other c is = ap (option_map (bucket_value after)) is
 
   other_found : (other : ℕ) → other ≢ key → found_in after other ≡ found_in block other
   other_found other differ = by_bucket (bucket_of block other) refl
@@ -161,13 +161,13 @@ module _ (block after : ℕ → ℕ) (key value b : ℕ) (built : IsBuilt block)
           ]
 
       by_bucket : (o : Option ℕ) → bucket_of block other ≡ o → found_in after other ≡ found_in block other
-      by_bucket None is = ap (option_map (value_in after)) (by_after (bucket_of after other) refl is) ∙ sym (ap (option_map (value_in block)) is)
+      by_bucket None is = ap (option_map (bucket_value after)) (by_after (bucket_of after other) refl is) ∙ sym (ap (option_map (bucket_value block)) is)
       by_bucket (Some c) is =
           let has = has_key block other c is in
           let full : key_in block c ≢ 0 = λ none. let held = has.held in omega (arith, held, none) in
           let apart : c ≢ b = λ same. full (ap (key_in block) same ∙ free.empty) in
           value_found other c (built_at after other c put_built has.within (full_kept c full ∙ has.held))
-          ∙ ap Some (put.values c apart) ∙ sym (ap (option_map (value_in block)) is)
+          ∙ ap Some (put.values c apart) ∙ sym (ap (option_map (bucket_value block)) is)
 
   -- and one more is found
   pub put_found : (other : ℕ) → found_in after other ≡ with_found key value (found_in block) other
@@ -192,7 +192,7 @@ ended_here block key n few passed own = ap is_some (sym (found_last block key n 
 
 -- it is not where all buckets are passed
 pub ended_all : (block : ℕ → ℕ) (key : ℕ) → looked block key 512 ≡ None → false ≡ is_some (bucket_of block key)
-ended_all block key passed = ap (λ (known : Option (Option ℕ)). is_some (outcome known)) (sym passed)
+ended_all block key passed = ap (λ (known : Option (Option ℕ)). is_some (found_outcome known)) (sym passed)
 
 -- else the search goes on
 pub looked_on : (block : ℕ → ℕ) (key n : ℕ) → looked block key n ≡ None → key_in block ((key % 512 + n) % 512) ≢ 0 → key_in block ((key % 512 + n) % 512) ≢ key + 1 → looked block key (n + 1) ≡ None

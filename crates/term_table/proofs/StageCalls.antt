@@ -12,7 +12,7 @@ use Rattle.term_table.specs.declared.answers.StageFault.TheVariants as faults
 use Rattle.term_table.specs.declared.buckets.Buckets.{Buckets}
 use Rattle.term_table.specs.declared.change.Change.{Change}
 use Rattle.term_table.specs.Keys.{ChangesTo, IsNewKey}
-use Rattle.term_table.specs.Built.{held_in, words_of, AreBuilt, HasRebuilt, is_full}
+use Rattle.term_table.specs.Built.{held_in, words_of, AreBuilt, HasRebuilt, is_full_table}
 use Rattle.term_table.specs.Tables.{Terms, active_table, staging_table, Stages, IsTableOf}
 use Rattle.term_table.specs.Staged.{HasLoaded, IsFreeTable, HasStored, HasStaged, IsWaiting}
 use Rattle.term_table.proofs.Fullness.{full_told, not_full}
@@ -58,10 +58,10 @@ module _ (t : Terms) (w : WriterView) (own : IsTableOf t w) (rooted now : Writer
     pub call_few : held_in (words_of held) 512 ≤ 384
     call_few = held_few t w own held here
 
-    pub call_full : (change : Change) → is_full change (words_of held) ≡ true → IsNewKey change (newest_of w) × (length (newest_of w).state.keys ≡ 384)
+    pub call_full : (change : Change) → is_full_table change (words_of held) ≡ true → IsNewKey change (newest_of w) × (length (newest_of w).state.keys ≡ 384)
     call_full = full_told (words_of held) (newest_of w) (held_stands t w own held here) (held_counted t w own held here)
 
-    pub call_room : (change : Change) → is_full change (words_of held) ≡ false → IsNewKey change (newest_of w) × (length (newest_of w).state.keys ≡ 384) → ⊥
+    pub call_room : (change : Change) → is_full_table change (words_of held) ≡ false → IsNewKey change (newest_of w) × (length (newest_of w).state.keys ≡ 384) → ⊥
     call_room = not_full (words_of held) (newest_of w) (held_stands t w own held here) (held_counted t w own held here)
 
   module _ (waited : WriterView) (asked : HasLoadedCounter now waited) where
@@ -85,7 +85,7 @@ module _ (t : Terms) (w : WriterView) (own : IsTableOf t w) (rooted now : Writer
         pub call_free : IsFreeTable ((parts.term + 1) % 4) waited
         call_free = subst (λ (n : ℕ). IsFreeTable n waited) (sym table_is) (free_now t w own waited asked_here enough_here)
 
-        module _ (change : Change) (held built : Buckets) (loads : HasLoaded parts.term 1024 rooted held) (rebuilt : HasRebuilt change held built) (room : is_full change (words_of held) ≡ false) (new : WriterView) (stored : HasStored ((parts.term + 1) % 4) 1024 built waited new) where
+        module _ (change : Change) (held built : Buckets) (loads : HasLoaded parts.term 1024 rooted held) (rebuilt : HasRebuilt change held built) (room : is_full_table change (words_of held) ≡ false) (new : WriterView) (stored : HasStored ((parts.term + 1) % 4) 1024 built waited new) where
           stored_here : HasStored (staging_table w) 1024 built waited new
           stored_here = subst (λ (n : ℕ). HasStored n 1024 built waited new) table_is stored
 

@@ -10,8 +10,8 @@ use Rattle.shared_words.proofs.ShownMembers.{still_at}
 use Rattle.progress_words.specs.Needs.{HasLoadedCounter}
 use Rattle.term_table.specs.declared.change.Change.{Change}
 use Rattle.term_table.specs.declared.buckets.Buckets.{Buckets}
-use Rattle.term_table.specs.Keys.{ChangesTo, key_of, value_of}
-use Rattle.term_table.specs.Built.{held_in, IsTable, words_of, AreBuilt, HasRebuilt, found_after, is_full, counts}
+use Rattle.term_table.specs.Keys.{ChangesTo, key_of, change_value}
+use Rattle.term_table.specs.Built.{held_in, IsTable, words_of, AreBuilt, HasRebuilt, found_after, is_full_table, key_count}
 use Rattle.progress_words.specs.Roots.{newest_of}
 use Rattle.term_table.specs.Tables.{Terms, active_table, staging_table, words_in, Stages, IsTableOf}
 use Rattle.term_table.specs.Staged.{HasLoaded, IsFreeTable, HasStored, HasStaged}
@@ -69,7 +69,7 @@ module _ (t : Terms) (w : WriterView) (own : IsTableOf t w) where
 
     -- ---- once it is stored
 
-    module _ (change : Change) (held built : Buckets) (loaded : HasLoaded (active_table w) 1024 w held) (rebuilt : HasRebuilt change held built) (room : is_full change (words_of held) ≡ false) (new : WriterView) (stored : HasStored (staging_table w) 1024 built waited new) where
+    module _ (change : Change) (held built : Buckets) (loaded : HasLoaded (active_table w) 1024 w held) (rebuilt : HasRebuilt change held built) (room : is_full_table change (words_of held) ≡ false) (new : WriterView) (stored : HasStored (staging_table w) 1024 built waited new) where
       abbrev staged : ℕ → ℕ
       staged = words_in new.words (staging_table w)
 
@@ -78,11 +78,11 @@ module _ (t : Terms) (w : WriterView) (own : IsTableOf t w) where
           found_same staged (words_of built) stored.words key ∙ rebuilt.found key
           ∙ ap (λ (o : Option ℕ). found_after change (λ _. o) key) (found_same (words_of held) active loaded.words key)
 
-      counted : held_in staged 512 + counts (found_in active (key_of change)) ≡ held_in active 512 + counts (value_of change)
+      counted : held_in staged 512 + key_count (found_in active (key_of change)) ≡ held_in active 512 + key_count (change_value change)
       counted =
           let one = counted_same staged (words_of built) stored.words in
           let two = counted_same (words_of held) active loaded.words in
-          let three = ap counts (found_same (words_of held) active loaded.words (key_of change)) in
+          let three = ap key_count (found_same (words_of held) active loaded.words (key_of change)) in
           let four = rebuilt.counted in omega (arith, one, two, three, four)
 
       staged_back : (at : ℕ) → at < 1024 → words_of built at ≡ staged at

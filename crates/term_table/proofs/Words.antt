@@ -14,7 +14,7 @@ use Rattle.area_core.specs.Terms.{found_in, is_word_of, TermsStand}
 use Rattle.area_core.proofs.Tests.{some_passes, passed_by}
 use Rattle.shared_words.specs.declared.view.WriterView.{WriterView}
 use Rattle.term_table.specs.declared.change.Change.{Change}
-use Rattle.term_table.specs.Keys.{Lacks, key_of, value_of, HoldsWord, ChangesTo}
+use Rattle.term_table.specs.Keys.{Lacks, key_of, change_value, HoldsWord, ChangesTo}
 use Rattle.term_table.specs.Built.{found_after}
 use Rattle.term_table.specs.Tables.{Terms, StagedFor, Stages}
 use Rattle.term_table.specs.Laws.{HaveSameKeys}
@@ -83,11 +83,11 @@ lacking block p key stands lacks = by_found (found_in block key) refl
 pub stands_changed : (block after : ℕ → ℕ) (change : Change) (p q : Published) → TermsStand block p → ((key : ℕ) → found_in after key ≡ found_after change (found_in block) key) → ChangesTo change p q → TermsStand after q
 stands_changed block after change p q stands found changes = record { found = all; only = none_else }
   where
-    here : (key : ℕ) → key ≡ key_of change → found_in after key ≡ value_of change
-    here key same = found key ∙ ap (λ (t : Bool). cond t (value_of change) (found_in block key)) (eq-eqb key (key_of change) same)
+    here : (key : ℕ) → key ≡ key_of change → found_in after key ≡ change_value change
+    here key same = found key ∙ ap (λ (t : Bool). cond t (change_value change) (found_in block key)) (eq-eqb key (key_of change) same)
 
     there : (key : ℕ) → key ≢ key_of change → found_in after key ≡ found_in block key
-    there key differ = found key ∙ ap (λ (t : Bool). cond t (value_of change) (found_in block key)) (ne_eqb key (key_of change) differ)
+    there key differ = found key ∙ ap (λ (t : Bool). cond t (change_value change) (found_in block key)) (ne_eqb key (key_of change) differ)
 
     by_value : (value : Option ℕ) (k : KeyTerm) → HoldsWord q (key_of change) value → Among q.state.keys k → k.key.0 ≡ key_of change → IsSomeAnd value (λ word. IsTrue (is_term_word q k.holding word))
     by_value None k lacks among same = absurd (lacks k among same)
@@ -96,7 +96,7 @@ stands_changed block after change p q stands found changes = record { found = al
     all : (i : ℕ) (k : KeyTerm) → slice_get q.state.keys i ≡ Some k → IsSomeAnd (found_in after k.key.0) (λ word. IsTrue (is_term_word q k.holding word))
     all i k at =
         elim (cases_eq k.key.0 (key_of change)) as (λ _. IsSomeAnd (found_in after k.key.0) (λ word. IsTrue (is_term_word q k.holding word))) [
-          | inl same ↦ subst (λ o. IsSomeAnd o (λ word. IsTrue (is_term_word q k.holding word))) (sym (here k.key.0 same)) (by_value (value_of change) k changes.here (i, at) same)
+          | inl same ↦ subst (λ o. IsSomeAnd o (λ word. IsTrue (is_term_word q k.holding word))) (sym (here k.key.0 same)) (by_value (change_value change) k changes.here (i, at) same)
           | inr differ ↦ (
               let was = (changes.others k differ).0 (i, at) in
               subst (λ o. IsSomeAnd o (λ word. IsTrue (is_term_word q k.holding word))) (sym (there k.key.0 differ))
@@ -116,7 +116,7 @@ stands_changed block after change p q stands found changes = record { found = al
     none_else : (key word : ℕ) → found_in after key ≡ Some word → IsTrue (list_any (is_word_of q key word) q.state.keys)
     none_else key word is =
         elim (cases_eq key (key_of change)) as (λ _. list_any (is_word_of q key word) q.state.keys ≡ true) [
-          | inl same ↦ subst (λ (n : ℕ). list_any (is_word_of q n word) q.state.keys ≡ true) (sym same) (by_word (value_of change) word changes.here (sym (here key same) ∙ is))
+          | inl same ↦ subst (λ (n : ℕ). list_any (is_word_of q n word) q.state.keys ≡ true) (sym same) (by_word (change_value change) word changes.here (sym (here key same) ∙ is))
           | inr differ ↦ (
               let one = key_found block p key word stands (sym (there key differ) ∙ is) in
               let apart : one.term.key.0 ≢ key_of change = λ same. differ (sym one.key_is ∙ same) in

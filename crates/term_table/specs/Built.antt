@@ -8,7 +8,7 @@ use Rattle.term_table.specs.declared.buckets.Buckets.{Buckets}
 use Rattle.term_table.specs.declared.places.TheConstants.{MOST_KEYS}
 use Rattle.term_table.specs.declared.change.Change.{Change}
 use Rattle.term_table.specs.declared.change.Change.TheVariants.{Put, Erase}
-use Rattle.term_table.specs.Keys.{key_of, value_of}
+use Rattle.term_table.specs.Keys.{key_of, change_value}
 
 -- ---- the words of a table
 
@@ -59,20 +59,20 @@ pub record HasInserted (key value : ℕ) (old new : Buckets) : Type 0 where
 
 -- what is found under each key once the change is made
 abbrev pub found_after : Change → (ℕ → Option ℕ) → ℕ → Option ℕ
-found_after change found key = if key == key_of change then value_of change else found key
+found_after change found key = if key == key_of change then change_value change else found key
 
 -- how many keys this is
-abbrev pub counts : Option ℕ → ℕ
-counts None = 0
-counts (Some value) = 1
+abbrev pub key_count : Option ℕ → ℕ
+key_count None = 0
+key_count (Some value) = 1
 
 -- the change adds a key to a table that has room for none
-abbrev pub is_full : Change → (ℕ → ℕ) → Bool
-is_full (Put key value) block = not (is_some (bucket_of block key.0)) && (held_in block BUCKETS == MOST_KEYS)
-is_full (Erase key) block = false
+abbrev pub is_full_table : Change → (ℕ → ℕ) → Bool
+is_full_table (Put key value) block = not (is_some (bucket_of block key.0)) && (held_in block BUCKETS == MOST_KEYS)
+is_full_table (Erase key) block = false
 
 -- the table anew, with the change
 pub record HasRebuilt (change : Change) (old new : Buckets) : Type 0 where
   pub built : AreBuilt new
   pub found : (key : ℕ) → found_in (words_of new) key ≡ found_after change (found_in (words_of old)) key
-  pub counted : held_in (words_of new) BUCKETS + counts (found_in (words_of old) (key_of change)) ≡ held_in (words_of old) BUCKETS + counts (value_of change)
+  pub counted : held_in (words_of new) BUCKETS + key_count (found_in (words_of old) (key_of change)) ≡ held_in (words_of old) BUCKETS + key_count (change_value change)

@@ -20,7 +20,7 @@ abbrev pub Lacks : Published → ℕ → Type 0
 Lacks p key = (k : KeyTerm) → Among p.state.keys k → k.key.0 ≢ key
 
 -- the generation has the key, and it holds this
-pub record Holds (p : Published) (key : ℕ) (holding : Holding) : Type 0 where
+pub record HoldsTerm (p : Published) (key : ℕ) (holding : Holding) : Type 0 where
   pub term : KeyTerm
   pub among : Among p.state.keys term
   pub key_is : term.key.0 ≡ key
@@ -33,12 +33,12 @@ EachHolds p key holding = (k : KeyTerm) → Among p.state.keys k → k.key.0 ≡
 -- what a look-up under the generation finds
 abbrev pub IsHeld : Published → ℕ → Found → Type 0
 IsHeld p key founds.Absent = Lacks p key
-IsHeld p key (founds.Word value) = Holds p key (holdings.Word value) × EachHolds p key (holdings.Word value)
-IsHeld p key (founds.Area area) = Holds p key (holdings.Area area.serial) × EachHolds p key (holdings.Area area.serial) × Among p.areas area
+IsHeld p key (founds.Word value) = HoldsTerm p key (holdings.Word value) × EachHolds p key (holdings.Word value)
+IsHeld p key (founds.Area area) = HoldsTerm p key (holdings.Area area.serial) × EachHolds p key (holdings.Area area.serial) × Among p.areas area
 
 -- no word that a key holds is one that leads to an area
 abbrev pub HasPlainWords : Published → Type 0
-HasPlainWords p = (key value : ℕ) → Holds p key (holdings.Word value) → value % 16 ≢ 5
+HasPlainWords p = (key value : ℕ) → HoldsTerm p key (holdings.Word value) → value % 16 ≢ 5
 
 -- ---- changes
 
@@ -48,9 +48,9 @@ key_of (Put key value) = key.0
 key_of (Erase key) = key.0
 
 -- the word that stands under it then, if one does
-abbrev pub value_of : Change → Option ℕ
-value_of (Put key value) = Some value
-value_of (Erase key) = None
+abbrev pub change_value : Change → Option ℕ
+change_value (Put key value) = Some value
+change_value (Erase key) = None
 
 -- the change adds a key that the generation lacks
 abbrev pub IsNewKey : Change → Published → Type 0
@@ -60,10 +60,10 @@ IsNewKey (Erase key) p = ⊥
 -- the generation holds under the key what this word stands for, or lacks the key
 abbrev pub HoldsWord : Published → ℕ → Option ℕ → Type 0
 HoldsWord p key None = Lacks p key
-HoldsWord p key (Some word) = (holding : Holding) × Holds p key holding × ((k : KeyTerm) → Among p.state.keys k → k.key.0 ≡ key → is_term_word p k.holding word ≡ true)
+HoldsWord p key (Some word) = (holding : Holding) × HoldsTerm p key holding × ((k : KeyTerm) → Among p.state.keys k → k.key.0 ≡ key → is_term_word p k.holding word ≡ true)
 
 -- a generation has the keys of another with this change, and the areas of the other keys are in the same blocks
 pub record ChangesTo (change : Change) (p q : Published) : Type 0 where
-  pub here : HoldsWord q (key_of change) (value_of change)
+  pub here : HoldsWord q (key_of change) (change_value change)
   pub others : (k : KeyTerm) → k.key.0 ≢ key_of change → Among q.state.keys k ↔ Among p.state.keys k
   pub placed : (k : KeyTerm) (serial : ℕ) (a : AreaRef) → Among q.state.keys k → k.key.0 ≢ key_of change → k.holding ≡ holdings.Area serial → Among p.areas a → a.serial ≡ serial → Among q.areas a

@@ -11,8 +11,8 @@ use Rattle.progress_words.specs.declared.answers.NotYet.{NotYet}
 use Rattle.progress_words.specs.Needs.{HasLoadedCounter}
 use Rattle.term_table.specs.declared.buckets.Buckets.{Buckets}
 use Rattle.term_table.specs.declared.change.Change.{Change}
-use Rattle.term_table.specs.Keys.{key_of, value_of}
-use Rattle.term_table.specs.Built.{held_in, words_of, found_after, counts}
+use Rattle.term_table.specs.Keys.{key_of, change_value}
+use Rattle.term_table.specs.Built.{held_in, words_of, found_after, key_count}
 use Rattle.term_table.specs.Tables.{Terms, active_table, staging_table, words_in}
 
 -- ---- the words of a table
@@ -42,7 +42,7 @@ pub record HasStored (table count : ℕ) (built : Buckets) (old new : WriterView
 pub record HasStaged (change : Change) (t u : Terms) (old new : WriterView) : Type 0 where
   pub table : u ≡ record { staged = Some (staging_table old); needs = t.needs }
   pub found : (key : ℕ) → found_in (words_in new.words (staging_table old)) key ≡ found_after change (found_in (words_in old.words (active_table old))) key
-  pub counted : held_in (words_in new.words (staging_table old)) BUCKETS + counts (found_in (words_in old.words (active_table old)) (key_of change)) ≡ held_in (words_in old.words (active_table old)) BUCKETS + counts (value_of change)
+  pub counted : held_in (words_in new.words (staging_table old)) BUCKETS + key_count (found_in (words_in old.words (active_table old)) (key_of change)) ≡ held_in (words_in old.words (active_table old)) BUCKETS + key_count (change_value change)
   pub others : (place : ℕ) → ((at : ℕ) → at < BIG_WORDS → place ≢ term_place (staging_table old) at) → word_at new.words place ≡ word_at old.words place
   pub waited : WriterView
   pub loaded : HasLoadedCounter old waited

@@ -2,7 +2,7 @@
 
 ghost use Rattle.std.specs.Prelude.{◌≡◌, ◌+◌, ◌*◌, ◌<◌, ◌^◌, ℕ, None, is_some, length, slice_set};
 ghost use Rattle.area_core.specs.declared.map.TheConstants.{BUCKETS as ALL_BUCKETS, BIG_WORDS};
-ghost use Rattle.area_core.specs.Terms.{key_in, value_in, bucket_of};
+ghost use Rattle.area_core.specs.Terms.{key_in, bucket_value, bucket_of};
 ghost use Rattle.term_table.specs.Built.{AreBuilt, HasInserted, IsFree, held_in, words_of};
 
 use crate::places::{BUCKETS, TABLE_WORDS};
@@ -46,7 +46,7 @@ impl Buckets {
     pub fn value_in(&self, bucket: u32) -> u64
         requires whole { length self.now.words ≡ BIG_WORDS }
         requires bucket { bucket < ALL_BUCKETS }
-        ensures { result ≡ value_in (words_of self.now) bucket }
+        ensures { result ≡ bucket_value (words_of self.now) bucket }
     {
         self.words[bucket as usize * 2 + 1]
     }

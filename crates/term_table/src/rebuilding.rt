@@ -4,7 +4,7 @@ ghost use Rattle.std.specs.Prelude.{◌≡◌, ◌≤◌, length};
 ghost use Rattle.area_core.specs.declared.map.TheConstants.{BUCKETS as ALL_BUCKETS, BIG_WORDS};
 ghost use Rattle.term_table.specs.declared.places.TheConstants.{MOST_KEYS as MOST};
 ghost use Rattle.term_table.specs.declared.change.Change.TheVariants as changes;
-ghost use Rattle.term_table.specs.Built.{AreBuilt, HasRebuilt, held_in, is_full, words_of};
+ghost use Rattle.term_table.specs.Built.{AreBuilt, HasRebuilt, held_in, is_full_table, words_of};
 
 use crate::buckets::{Buckets, no_buckets};
 use crate::change::Change;
@@ -14,7 +14,7 @@ use term_core::AtomId;
 /// Whether a change adds a key where there is room for none.
 pub fn is_full(held: &Buckets, change: Change) -> bool
     requires whole { length held.now.words ≡ BIG_WORDS }
-    ensures { result ≡ is_full change (words_of held.now) }
+    ensures { result ≡ is_full_table change (words_of held.now) }
 {
     match change {
         Change::Put { key, .. } => !held.holds(key.0) && held.count() == MOST_KEYS,

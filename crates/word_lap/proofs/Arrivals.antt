@@ -21,7 +21,7 @@ use Rattle.shared_words.specs.declared.view.NoteView.{NoteView}
 use Rattle.shared_words.specs.Notes.{note_joined}
 use Rattle.shared_words.specs.Processes.{held_by_view, note_in, under_of}
 use Rattle.shared_words.specs.Rule.{HasItsAreas}
-use Rattle.anchors.specs.Holds.{Holds, IsUnkilled, MayRun, anchors_of}
+use Rattle.anchors.specs.Holds.{HoldsAnchors, IsUnkilled, MayRun, anchors_of}
 use Rattle.machine_core.specs.GenerationReads.{words_in}
 use Rattle.machine_core.specs.Holds.{Holds as HoldsOf, serials_of}
 use Rattle.machine_core.specs.Process.{Words, frames_of, names_of, new_process, process_of}
@@ -36,7 +36,7 @@ use Rattle.word_view.specs.Anchored.{holds_by}
 use Rattle.word_view.specs.Laps.{NamesNothing}
 use Rattle.word_view.specs.Views.{shown_by}
 use Rattle.word_view.proofs.Anchoring.{named_any}
-use Rattle.run_law.specs.Newcomers.{Spawn}
+use Rattle.run_law.specs.Newcomers.{SpawnedProcess}
 use Rattle.run_law.specs.Reading.{MarksTell}
 use Rattle.word_lap.specs.declared.process_run.ProcessRun.{ProcessRun}
 use Rattle.word_lap.specs.Reading.{stand_under}
@@ -111,7 +111,7 @@ module _ (functions : List Mfa) (opening : Opening) (m : MemberView) (n : NoteNu
   rests_noted p published run came (rests_going fin h) = rests_going fin (record { knows = at_hand_noted p published came h.knows; turn = h.turn; counted = h.counted; spans = h.spans })
   rests_noted p published run came (rests_ended h) = rests_ended (record { over = h.over; left = h.left; empty = h.empty; killed = h.killed })
 
-  held_noted : (p : ℕ) (spawn : Spawn) (run : ProcessRun) → IsHeld functions opening m p spawn run → IsHeld functions opening now p spawn run
+  held_noted : (p : ℕ) (spawn : SpawnedProcess) (run : ProcessRun) → IsHeld functions opening m p spawn run → IsHeld functions opening now p spawn run
   held_noted p spawn run h = record {
     number = h.number;
     target = h.target;
@@ -127,17 +127,17 @@ module _ (functions : List Mfa) (opening : Opening) (m : MemberView) (n : NoteNu
 -- ---- the newcomer
 
 -- anchors that are 0 name nothing
-none_names : (anchors : List ℕ) → NamesNothing anchors → (serial : ℕ) → HasAnchor tests.names anchors serial → ⊥
+none_names : (anchors : List ℕ) → NamesNothing anchors → (serial : ℕ) → HasAnchor tests.anchor_names_area anchors serial → ⊥
 none_names anchors empty serial anchor = both_ways (tests.is_naming anchor.word) (ap tests.is_naming (empty anchor.place anchor.word anchor.at)) (and_parts (tests.is_naming anchor.word) (tests.serial_in anchor.word == serial) anchor.passes).0
 
-none_held : (kind : Kind) (anchors : List ℕ) → NamesNothing anchors → (serial : ℕ) → Holds kind anchors serial → ⊥
+none_held : (kind : Kind) (anchors : List ℕ) → NamesNothing anchors → (serial : ℕ) → HoldsAnchors kind anchors serial → ⊥
 none_held kind anchors empty serial held = none_names anchors empty serial (named_any kind anchors serial held)
 
 pub none_kills : (anchors : List ℕ) → NamesNothing anchors → IsUnkilled anchors
 none_kills anchors empty place word serial at told = zero_tells serial (subst (λ (w : ℕ). tells_kill w serial ≡ true) (empty place word at) told)
 
 -- a process before its first turn, whose note came in this state
-module _ (functions : List Mfa) (opening : Opening) (m : MemberView) (n : NoteNumber) (spawn : Spawn) (run : ProcessRun) where
+module _ (functions : List Mfa) (opening : Opening) (m : MemberView) (n : NoteNumber) (spawn : SpawnedProcess) (run : ProcessRun) where
   abbrev later : MemberView
   later = record m { notes = m.notes ++ n ∷ [] }
 
@@ -202,11 +202,11 @@ module _ (functions : List Mfa) (opening : Opening) (m : MemberView) (n : NoteNu
 -- ---- all places
 
 -- nothing but the list of what was taken is changed: what came does not belong here, or its place is taken
-module _ (functions : List Mfa) (opening : Opening) (m : MemberView) (taken : List Spawn) (spawn : Spawn) where
-  abbrev more : List Spawn
+module _ (functions : List Mfa) (opening : Opening) (m : MemberView) (taken : List SpawnedProcess) (spawn : SpawnedProcess) where
+  abbrev more : List SpawnedProcess
   more = taken ++ spawn ∷ []
 
-  among_more : (x : Spawn) → Among taken x → Among more x
+  among_more : (x : SpawnedProcess) → Among taken x → Among more x
   among_more x (i, at) = (i, get_front taken (spawn ∷ []) i x at)
 
   at_more : (p : ℕ) (place : Option ProcessRun) → (place ≡ None → spawn.number ≡ p → p % opening.members ≢ m.member.number) → IsHeldAt functions opening m taken p place → IsHeldAt functions opening m more p place
@@ -214,7 +214,7 @@ module _ (functions : List Mfa) (opening : Opening) (m : MemberView) (taken : Li
     h.0,
     λ x among is own. elim (slice_get-push_at taken spawn among.0 x among.1) as (λ _. ⊥) [
       | inl before ↦ h.1 x (among.0, before) is own
-      | inr last ↦ apart refl (ap (λ (y : Spawn). y.number) (sym last.1) ∙ is) own
+      | inr last ↦ apart refl (ap (λ (y : SpawnedProcess). y.number) (sym last.1) ∙ is) own
     ],
   )
   at_more p (Some run) apart h = (h.0, (among_more h.0 h.1.0, h.1.1))
@@ -232,7 +232,7 @@ module _ (functions : List Mfa) (opening : Opening) (m : MemberView) (taken : Li
       empty_noted functions opening m n p (λ same. other (sym same ∙ noted)) h.0,
       λ x among is own. elim (slice_get-push_at taken spawn among.0 x among.1) as (λ _. ⊥) [
         | inl before ↦ h.1 x (among.0, before) is own
-        | inr last ↦ other (sym is ∙ ap (λ (y : Spawn). y.number) last.1)
+        | inr last ↦ other (sym is ∙ ap (λ (y : SpawnedProcess). y.number) last.1)
       ],
     )
     other_place p (Some held) other h = (h.0, (among_more h.0 h.1.0, (h.1.1.0, held_noted functions opening m n p h.0 held h.1.1.1)))

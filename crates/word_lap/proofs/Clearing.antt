@@ -21,7 +21,7 @@ use Rattle.shared_words.specs.Slots.{FitsAnchor, MayStoreSlot, with_slot}
 use Rattle.shared_words.specs.Views.{published_at}
 use Rattle.shared_words.proofs.ShownMembers.{within_get}
 use Rattle.anchors.specs.Drops.{AnchorsStored}
-use Rattle.anchors.specs.Holds.{Holds, MayRun, anchors_of, names_for, view_of}
+use Rattle.anchors.specs.Holds.{HoldsAnchors, MayRun, anchors_of, names_for, view_of}
 use Rattle.anchors.proofs.Holding.{anchors_stored, may_store}
 use Rattle.anchors.proofs.Stored.{more_stored, none_stored, one_stored, run_still, set_again, set_here}
 use Rattle.word_lap.specs.Laps.{HasClearedAt, HasDroppedAll, cleared}
@@ -137,7 +137,7 @@ module _ (n : ℕ) (old new : List ℕ) (h : ClearedBefore n old new) (late : le
       let found = has_element old place (omega (arith, within, wide)) in
       (found.0, found.1, ap (λ (o : Option ℕ). unwrap_or o 0) (sym at ∙ h.before place found.0 found.1 (omega (arith, within, wide, late))))
 
-  none_named : (kind : Kind) (serial : ℕ) → Holds kind new serial → ⊥
+  none_named : (kind : Kind) (serial : ℕ) → HoldsAnchors kind new serial → ⊥
   none_named kind serial held =
       let was = came_of held.place held.word held.at in
       names_nothing kind was.0 serial (subst (λ (w : ℕ). names_for kind w serial ≡ true) was.2 held.passes)

@@ -22,7 +22,7 @@ use Rattle.shared_words.specs.declared.view.MemberView.{MemberView}
 use Rattle.shared_words.specs.Processes.{held_by_view, process_of as known_of}
 use Rattle.shared_words.specs.Slots.{with_slot}
 use Rattle.shared_words.proofs.AnchorStores.{process_else, process_here}
-use Rattle.anchors.specs.Holds.{Holds, anchors_of, names_for, view_of}
+use Rattle.anchors.specs.Holds.{HoldsAnchors, anchors_of, names_for, view_of}
 use Rattle.machine_core.specs.declared.process.End.{End}
 use Rattle.machine_core.specs.declared.process.End.TheVariants.{Killed, SystemLimit}
 use Rattle.machine_core.specs.declared.process.Frame.{Frame as CodeFrame}
@@ -66,7 +66,7 @@ like_on m n o first second = second ∙ ap (λ (x : MemberView). record x { slot
 -- ---- names
 
 -- anchors that hold nothing name nothing
-pub none_named_for : (kind : Kind) (anchors : List ℕ) → ((serial : ℕ) → Holds kind anchors serial → ⊥) → named_for kind anchors ≡ []
+pub none_named_for : (kind : Kind) (anchors : List ℕ) → ((serial : ℕ) → HoldsAnchors kind anchors serial → ⊥) → named_for kind anchors ≡ []
 none_named_for kind [] empty = refl
 none_named_for kind (word ∷ words) empty =
     elim (cases_Bool (names_for kind word (serial_in word))) as (λ _. named_for kind (word ∷ words) ≡ []) [
@@ -240,7 +240,7 @@ module _ (functions : List Mfa) (opening : Opening) (table : TableId) (a b : tok
         record {
           over = subst IsSome (sym some) refl;
           left = none_reversed p.frames shown.words (sym (ap (λ (x : PlainProcess). x.frames) turn.gives.process) ∙ turn_ended_by shown.reads stood fin (ended_at (Ended fin) is));
-          empty = λ kind serial held. ends.empty kind serial (subst (λ (xs : List ℕ). Holds kind xs serial) anchors_c held);
+          empty = λ kind serial held. ends.empty kind serial (subst (λ (xs : List ℕ). HoldsAnchors kind xs serial) anchors_c held);
           killed = λ serial some_serial. (
             λ tells. some ∙ ap (λ (x : End). Some x) ((ends.killed serial some_serial).0 (subst (λ (xs : List ℕ). HasAnchor tells_kill xs serial) anchors_c tells)),
             λ ended. subst (λ (xs : List ℕ). HasAnchor tells_kill xs serial) (sym anchors_c) ((ends.killed serial some_serial).1 (same_end fin (Killed serial) (sym some ∙ ended))),

@@ -25,7 +25,7 @@ use Rattle.run_steps.specs.MadeTurns.{ArePlacedOver, TurnsMade, marks_made}
 use Rattle.run_steps.specs.Stands.{IsEnd, Stand, end_of, going_stand, phase_of}
 use Rattle.run_law.specs.Ended.{HasNotRun, HasRun, HasTurned}
 use Rattle.run_law.specs.Laws.{AreLearnt}
-use Rattle.run_law.specs.Newcomers.{IsTaken, Spawn, spawn_for}
+use Rattle.run_law.specs.Newcomers.{IsTaken, SpawnedProcess, spawn_for}
 use Rattle.run_law.specs.Reading.{MarksTell, reads_under}
 use Rattle.word_lap.specs.declared.process_run.ProcessRun.{ProcessRun}
 use Rattle.word_lap.specs.Laws.{HaveAllEnded, KnowsTheSame, log_of_run}
@@ -86,17 +86,17 @@ module _ (functions : List Mfa) (m last : MemberView) (same : KnowsTheSame m las
         (subst (λ xs. MarksTell (reverse xs) (marks_made (reads_under functions m.seen) h.generations first)) (sym (same_known p)) h.marks);
   }
 
-  has_run : (opening : Opening) (texts : List Module) (journal : List Entry) (number : ℕ) (line : SpawnLine) (spawn : Spawn) (run : ProcessRun) → AreLearnt functions texts journal m.seen → spawn ≡ spawn_for journal number line → IsSome run.fin
+  has_run : (opening : Opening) (texts : List Module) (journal : List Entry) (number : ℕ) (line : SpawnLine) (spawn : SpawnedProcess) (run : ProcessRun) → AreLearnt functions texts journal m.seen → spawn ≡ spawn_for journal number line → IsSome run.fin
       → IsHeld functions opening m number spawn run → HasRun functions journal last number line (log_of_run run)
   has_run opening texts journal number line spawn run learnt is over h =
-      let target : run.process.target ≡ line.target = h.target ∙ ap (λ (x : Spawn). x.target) is in
-      let args : run.process.args ≡ line.args = h.args ∙ ap (λ (x : Spawn). x.args) is in
+      let target : run.process.target ≡ line.target = h.target ∙ ap (λ (x : SpawnedProcess). x.target) is in
+      let args : run.process.args ≡ line.args = h.args ∙ ap (λ (x : SpawnedProcess). x.args) is in
       let first : first_stand run ≡ going_stand number line.target line.args = λ i. going_stand (h.number i) (target i) (args i) in
       let ended = ended_there functions opening m number run over h.rests in
       let other : run.fin ≢ Some (Killed 0) = λ fin.
       no_first_kill functions texts journal m.seen h.turns.generations (first_stand run) (stand_under m run) learnt h.turns.learnt going_first h.turns.made (ap phase_of fin) in
       record {
-        noted = ap (λ (notes : List NoteNumber). note_in notes number) same.notes ∙ h.noted ∙ ap (λ (x : Spawn). Some x.published) is;
+        noted = ap (λ (notes : List NoteNumber). note_in notes number) same.notes ∙ h.noted ∙ ap (λ (x : SpawnedProcess). Some x.published) is;
         last = stand_under m run;
         turned = turned_same number (going_stand number line.target line.args) (stand_under m run) (subst (λ (x : Stand). HasTurned functions m number x (stand_under m run)) first h.turns);
         over = is_over run.fin over;
@@ -114,7 +114,7 @@ module _ (functions : List Mfa) (m last : MemberView) (same : KnowsTheSame m las
 
 -- ---- all places
 
-module _ (functions : List Mfa) (opening : Opening) (m last : MemberView) (taken : List Spawn) (processes : List (Option ProcessRun)) (same : KnowsTheSame m last) (number : ℕ) where
+module _ (functions : List Mfa) (opening : Opening) (m last : MemberView) (taken : List SpawnedProcess) (processes : List (Option ProcessRun)) (same : KnowsTheSame m last) (number : ℕ) where
   module _ (texts : List Module) (journal : List Entry) (line : SpawnLine) (learnt : AreLearnt functions texts journal m.seen) (own : number % opening.members ≡ m.member.number) (here : IsTaken journal number line taken) (ended : HaveAllEnded processes) where
     at_place : (place : Option ProcessRun) → slice_get processes number ≡ Some place → IsHeldAt functions opening m taken number place
         → (run : ProcessRun) × ((slice_get processes number ≡ Some (Some run)) × HasRun functions journal last number line (log_of_run run))
@@ -128,7 +128,7 @@ module _ (functions : List Mfa) (opening : Opening) (m last : MemberView) (taken
         let at = slice_get-get_or processes number None (omega (arith, all, below)) in
         at_place (get_or processes number None) at (h.each number (get_or processes number None) at)
 
-  module _ (none : (spawn : Spawn) → Among taken spawn → spawn.number ≢ number) where
+  module _ (none : (spawn : SpawnedProcess) → Among taken spawn → spawn.number ≢ number) where
     not_at_place : (place : Option ProcessRun) → IsHeldAt functions opening m taken number place → HasNotRun last number
     not_at_place None h = has_not_run functions m last same number h.0
     not_at_place (Some run) h = absurd (none h.0 h.1.0 h.1.1.0)

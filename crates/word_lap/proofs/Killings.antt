@@ -15,7 +15,7 @@ use Rattle.shared_words.specs.declared.view.MemberView.{MemberView}
 use Rattle.shared_words.specs.Processes.{AreCopied}
 use Rattle.shared_words.specs.Seats.{IsMemberSeat}
 use Rattle.anchors.specs.Drops.{AnchorsStored, HasKilled, IsDoomed}
-use Rattle.anchors.specs.Holds.{Holds, IsUnkilled, MayRun, anchors_of, view_of}
+use Rattle.anchors.specs.Holds.{HoldsAnchors, IsUnkilled, MayRun, anchors_of, view_of}
 use Rattle.anchors.proofs.Holding.{anchors_stored}
 use Rattle.anchors.proofs.Stored.{more_stored, none_stored, one_stored, run_still}
 use Rattle.word_lap.specs.Laps.{HasDroppedAll, HasEndedIn, MayEndBy, MayKill, TellsOf, killer_of}
@@ -35,7 +35,7 @@ killer_is fin serial is = absurd (none-some serial is)
 may_kill : (process serial : ℕ) (m : MemberView) (fin : End) → MayEndBy process m fin → Some serial ≡ killer_of fin → MayKill process serial m
 may_kill process serial m fin may is = subst (λ (o : Option ℕ). IfSome o (λ s. MayKill process s m)) (sym is) may
 
-pub kill_named : (process serial : ℕ) (m : MemberView) (fin : End) → MayEndBy process m fin → Some serial ≡ killer_of fin → Holds Frame (anchors_of m process) serial
+pub kill_named : (process serial : ℕ) (m : MemberView) (fin : End) → MayEndBy process m fin → Some serial ≡ killer_of fin → HoldsAnchors Frame (anchors_of m process) serial
 kill_named process serial m fin may is = (may_kill process serial m fin may is).named
 
 pub kill_doomed : (process serial : ℕ) (m : MemberView) (fin : End) → MayEndBy process m fin → Some serial ≡ killer_of fin → IsDoomed serial m

@@ -40,7 +40,7 @@ use Rattle.word_view.specs.Anchored.{holds_by}
 use Rattle.word_view.specs.Laps.{NamesNothing}
 use Rattle.word_view.specs.Views.{NamedListed, StandsIn, shown_by}
 use Rattle.run_law.specs.Ended.{HasTurned}
-use Rattle.run_law.specs.Newcomers.{Spawn}
+use Rattle.run_law.specs.Newcomers.{SpawnedProcess}
 use Rattle.run_law.specs.Reading.{MarksTell, reads_under}
 use Rattle.word_lap.specs.declared.process_run.ProcessRun.{ProcessRun}
 use Rattle.word_lap.specs.Laps.{HasTried}
@@ -82,7 +82,7 @@ module _ (functions : List Mfa) (opening : Opening) (old new : MemberView) (same
       areas = subst HasItsAreas (sym held_same) h.begins.areas;
       named = subst (λ (xs : List ℕ). NamedListed (held_by_view new) xs) (sym known) (subst (λ (g : Published). NamedListed g (anchors_of old p)) (sym held_same) h.begins.named);
     };
-    named = λ serial anchor. subst (λ (g : Published). StandsIn g serial) (sym held_same) (h.named serial (subst (λ (xs : List ℕ). HasAnchor tests.names xs serial) known anchor));
+    named = λ serial anchor. subst (λ (g : Published). StandsIn g serial) (sym held_same) (h.named serial (subst (λ (xs : List ℕ). HasAnchor tests.anchor_names_area xs serial) known anchor));
   }
 
   rests_still : (run : ProcessRun) → Rests functions opening old p run → Rests functions opening new p run
@@ -97,11 +97,11 @@ module _ (functions : List Mfa) (opening : Opening) (old new : MemberView) (same
   rests_still run (rests_ended h) = rests_ended (record {
     over = h.over;
     left = h.left;
-    empty = λ kind serial held. h.empty kind serial (subst (λ (xs : List ℕ). slots.Holds kind xs serial) known held);
+    empty = λ kind serial held. h.empty kind serial (subst (λ (xs : List ℕ). slots.HoldsAnchors kind xs serial) known held);
     killed = λ serial some_serial. subst (λ (xs : List ℕ). HasAnchor tells_kill xs serial ↔ (run.fin ≡ Some (Killed serial))) (sym known) (h.killed serial some_serial);
   })
 
-  held_still : (spawn : Spawn) (run : ProcessRun) → IsHeld functions opening old p spawn run → IsHeld functions opening new p spawn run
+  held_still : (spawn : SpawnedProcess) (run : ProcessRun) → IsHeld functions opening old p spawn run → IsHeld functions opening new p spawn run
   held_still spawn run h =
       let stands : stand_under new run ≡ stand_under old run = ap (λ (g : Published). record { process = process_of (words_in g.state) run.process; spans = run.spans; phase = phase_of run.fin }) held_same in
       record {
@@ -113,7 +113,7 @@ module _ (functions : List Mfa) (opening : Opening) (old new : MemberView) (same
         rests = rests_still run h.rests;
       }
 
-  pub place_still : (taken : List Spawn) (place : Option ProcessRun) → IsHeldAt functions opening old taken p place → IsHeldAt functions opening new taken p place
+  pub place_still : (taken : List SpawnedProcess) (place : Option ProcessRun) → IsHeldAt functions opening old taken p place → IsHeldAt functions opening new taken p place
   place_still taken None h = (
     record {
       marks = marks ∙ h.0.marks;
@@ -125,7 +125,7 @@ module _ (functions : List Mfa) (opening : Opening) (old new : MemberView) (same
   place_still taken (Some run) h = (h.0, (h.1.0, (h.1.1.0, held_still h.0 run h.1.1.1)))
 
 -- an attempt to lead keeps what a scheduler knows of its processes
-pub lead_keeps : (functions : List Mfa) (opening : Opening) (old new : MemberView) (taken : List Spawn) (processes : List (Option ProcessRun)) → HasTried old new → KeepsProcesses functions opening old taken processes
+pub lead_keeps : (functions : List Mfa) (opening : Opening) (old new : MemberView) (taken : List SpawnedProcess) (processes : List (Option ProcessRun)) → HasTried old new → KeepsProcesses functions opening old taken processes
     → KeepsProcesses functions opening new taken processes
 lead_keeps functions opening old new taken processes tried h = record {
   all = h.all;
@@ -211,7 +211,7 @@ module _ (functions : List Mfa) (opening : Opening) (old new : MemberView) (befo
   rests_after None is = rests_going is (had.again is)
   rests_after (Some fin) is = rests_ended (had.over (subst IsSome (sym is) refl))
 
-  held_after : (p : ℕ) (spawn : Spawn) → before.fin ≡ None → IsHeld functions opening old p spawn before → IsHeld functions opening new p spawn after
+  held_after : (p : ℕ) (spawn : SpawnedProcess) → before.fin ≡ None → IsHeld functions opening old p spawn before → IsHeld functions opening new p spawn after
   held_after p spawn going h =
       let at : number ≡ p = h.number in
       let kept = kept_as (reads g) (stand_under old before).process in
@@ -234,11 +234,11 @@ module _ (functions : List Mfa) (opening : Opening) (old new : MemberView) (befo
   }
 
   -- the turn of the process at a place keeps what a scheduler knows of its processes
-  pub turn_keeps : (p : ℕ) (taken : List Spawn) (processes : List (Option ProcessRun)) → before.fin ≡ None → slice_get processes p ≡ Some (Some before) → KeepsProcesses functions opening old taken processes
+  pub turn_keeps : (p : ℕ) (taken : List SpawnedProcess) (processes : List (Option ProcessRun)) → before.fin ≡ None → slice_get processes p ≡ Some (Some before) → KeepsProcesses functions opening old taken processes
       → KeepsProcesses functions opening new taken (slice_set processes p (Some after))
   turn_keeps p taken processes going at h =
       let own_place = h.each p (Some before) at in
-      let spawn : Spawn = own_place.0 in
+      let spawn : SpawnedProcess = own_place.0 in
       let is_held : IsHeld functions opening old p spawn before = own_place.1.1.1 in
       record {
         all = length-set processes p (Some after) ∙ h.all;

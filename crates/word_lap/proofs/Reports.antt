@@ -12,7 +12,7 @@ use Rattle.term_core.specs.declared.atom.Mfa.{Mfa}
 use Rattle.term_core.specs.declared.hold.Kind.TheVariants.{Frame, Literal}
 use Rattle.area_core.specs.declared.table.Published.{Published}
 use Rattle.area_core.specs.Generations as tests
-use Rattle.area_core.specs.Roots.{image_of}
+use Rattle.area_core.specs.Roots.{serial_image}
 use Rattle.marks.specs.declared.mark.ProcessView.{ProcessView}
 use Rattle.marks.specs.Names.{HasAnchor, tells_kill}
 use Rattle.marks.specs.Steps.{HasNote}
@@ -21,10 +21,10 @@ use Rattle.shared_words.specs.declared.view.MemberView.{MemberView}
 use Rattle.shared_words.specs.Kinds.{IsSameIn}
 use Rattle.shared_words.specs.Processes.{NamesArea, held_by_view, note_in, process_of as known_of, under_of}
 use Rattle.shared_words.specs.Rule.{IsBeginning}
-use Rattle.shared_words.specs.Views.{newest, published_at}
+use Rattle.shared_words.specs.Views.{newest_number, published_at}
 use Rattle.shared_words.proofs.RootLoads.{shorter}
 use Rattle.shared_words.proofs.SlotFrames.{published_begins}
-use Rattle.progress_words.specs.Reports.{IsAwake, Reported, having_reported}
+use Rattle.progress_words.specs.Reports.{IsAwake, HoldsReported, having_reported}
 use Rattle.anchors.specs.Holds as slots
 use Rattle.anchors.specs.Holds.{AnchorsApart, IsUnkilled, anchors_of}
 use Rattle.machine_core.specs.declared.process.End.TheVariants.{Killed}
@@ -46,7 +46,7 @@ use Rattle.word_view.proofs.Anchoring.{held_names, named_any}
 use Rattle.word_view.proofs.Coming.{block_listed}
 use Rattle.word_view.proofs.GoingOn.{IsSame, frames_stay, may_go_on}
 use Rattle.run_law.specs.Ended.{HasTurned}
-use Rattle.run_law.specs.Newcomers.{Spawn}
+use Rattle.run_law.specs.Newcomers.{SpawnedProcess}
 use Rattle.run_law.specs.Reading.{MarksTell, reads_under}
 use Rattle.word_lap.specs.declared.process_run.ProcessRun.{ProcessRun}
 use Rattle.word_lap.specs.Reading.{stand_under}
@@ -62,7 +62,7 @@ begins_through : (a b c : List Published) → IsBeginning a b → IsBeginning b 
 begins_through a b c first second = (first.0 ++ second.0, second.1 ∙ ap (λ (xs : List Published). xs ++ second.0) first.1 ∙ append_assoc a first.0 second.0)
 
 -- two reports are one by what they leave
-pub reports_on : (Served : Published → Type 0) (a b c : MemberView) (g h : ℕ) → Reported Served a b g → Reported Served b c h → Reported Served a c h
+pub reports_on : (Served : Published → Type 0) (a b c : MemberView) (g h : ℕ) → HoldsReported Served a b g → HoldsReported Served b c h → HoldsReported Served a c h
 reports_on Served a b c g h first second = record {
   counter = second.counter;
   range = second.range;
@@ -78,7 +78,7 @@ reports_on Served a b c g h first second = record {
       let two : IsSameIn (held_by_view b) (held_by_view c) x = second.named x named_now one.listed in
       record { listed = two.listed; image = two.image ∙ one.image };
   view = second.view ∙ ap (having_reported second.counter c.seen) first.view
-      ∙ ap (λ (r : Role). record a { member = record a.member { word = second.counter + 1; loaded = Nothing; generation = newest c.seen; role = r }; seen = c.seen }) (knowing_again first.counter second.counter a.member.role);
+      ∙ ap (λ (r : Role). record a { member = record a.member { word = second.counter + 1; loaded = Nothing; generation = newest_number c.seen; role = r }; seen = c.seen }) (knowing_again first.counter second.counter a.member.role);
 }
 
 -- ---- one process that may go on
@@ -88,8 +88,8 @@ note_still : (o : Option ℕ) (old new : MemberView) → old.member.generation �
 note_still None old new more h = h
 note_still (Some n) old new more h = omega (arith, more, h)
 
-module _ (functions : List Mfa) (opening : Opening) (p : ℕ) (old new : MemberView) (generation : ℕ) (learnt : old.member.generation < length old.seen) (awake : IsAwake new) (r : Reported (IsServed functions) old new generation) where
-  own_newest : new.member.generation ≡ newest new.seen
+module _ (functions : List Mfa) (opening : Opening) (p : ℕ) (old new : MemberView) (generation : ℕ) (learnt : old.member.generation < length old.seen) (awake : IsAwake new) (r : HoldsReported (IsServed functions) old new generation) where
+  own_newest : new.member.generation ≡ newest_number new.seen
   own_newest = ap (λ (m : MemberView). m.member.generation) r.view
 
   same_anchors : anchors_of new p ≡ anchors_of old p
@@ -103,20 +103,20 @@ module _ (functions : List Mfa) (opening : Opening) (p : ℕ) (old new : MemberV
 
   module _ (h : IsAtHand functions opening p old) where
     -- an area that the slot names is the same in the new generation
-    same_in : (serial : ℕ) (anchor : HasAnchor tests.names (anchors_of old p) serial) → IsSameIn (held_by_view old) (held_by_view new) (h.named serial anchor).area
+    same_in : (serial : ℕ) (anchor : HasAnchor tests.anchor_names_area (anchors_of old p) serial) → IsSameIn (held_by_view old) (held_by_view new) (h.named serial anchor).area
     same_in serial anchor =
         let s : StandsIn (held_by_view old) serial = h.named serial anchor in
-        r.named s.area (p, subst (HasAnchor tests.names (anchors_of old p)) (sym s.is) anchor) s.stands.listed
+        r.named s.area (p, subst (HasAnchor tests.anchor_names_area (anchors_of old p)) (sym s.is) anchor) s.stands.listed
 
-    own : (serial : ℕ) → HasAnchor tests.names (anchors_of new p) serial → HasAnchor tests.names (anchors_of old p) serial
-    own serial anchor = subst (λ (xs : List ℕ). HasAnchor tests.names xs serial) same_anchors anchor
+    own : (serial : ℕ) → HasAnchor tests.anchor_names_area (anchors_of new p) serial → HasAnchor tests.anchor_names_area (anchors_of old p) serial
+    own serial anchor = subst (λ (xs : List ℕ). HasAnchor tests.anchor_names_area xs serial) same_anchors anchor
 
     listed : NamedListed (held_by_view new) (anchors_of new p)
     listed serial anchor =
         let before = own serial anchor in
         ((h.named serial before).area, (same_in serial before).listed, (h.named serial before).is)
 
-    stands : (serial : ℕ) → HasAnchor tests.names (anchors_of new p) serial → StandsIn (held_by_view new) serial
+    stands : (serial : ℕ) → HasAnchor tests.anchor_names_area (anchors_of new p) serial → StandsIn (held_by_view new) serial
     stands serial anchor =
         let before = own serial anchor in
         let s : StandsIn (held_by_view old) serial = h.named serial before in
@@ -141,9 +141,9 @@ module _ (functions : List Mfa) (opening : Opening) (p : ℕ) (old new : MemberV
       named = stands;
     }
 
-    names_held : (serial : ℕ) → is_area_held (holds_by (anchors_of old p)) serial ≡ true → HasAnchor tests.names (anchors_of old p) serial
+    names_held : (serial : ℕ) → is_area_held (holds_by (anchors_of old p)) serial ≡ true → HasAnchor tests.anchor_names_area (anchors_of old p) serial
     names_held serial held =
-        elim (or_cases (is_held (holds_by (anchors_of old p)) serial Frame) (is_held (holds_by (anchors_of old p)) serial Literal) held) as (λ _. HasAnchor tests.names (anchors_of old p) serial) [
+        elim (or_cases (is_held (holds_by (anchors_of old p)) serial Frame) (is_held (holds_by (anchors_of old p)) serial Literal) held) as (λ _. HasAnchor tests.anchor_names_area (anchors_of old p) serial) [
           | inl frame ↦ named_any Frame (anchors_of old p) serial (held_names Frame (anchors_of old p) serial frame)
           | inr literal ↦ named_any Literal (anchors_of old p) serial (held_names Literal (anchors_of old p) serial literal)
         ]
@@ -155,7 +155,7 @@ module _ (functions : List Mfa) (opening : Opening) (p : ℕ) (old new : MemberV
         let there = same_in serial anchor in
         record {
           words = ap (λ (o : Option (List ℕ)). unwrap_or o [])
-              (sym (image_same (held_by_view old).state.areas serial) ∙ ap (image_of (held_by_view old).state.areas) (sym s.is) ∙ sym there.image ∙ ap (image_of (held_by_view new).state.areas) s.is ∙ image_same (held_by_view new).state.areas serial);
+              (sym (image_same (held_by_view old).state.areas serial) ∙ ap (serial_image (held_by_view old).state.areas) (sym s.is) ∙ sym there.image ∙ ap (serial_image (held_by_view new).state.areas) s.is ∙ image_same (held_by_view new).state.areas serial);
           block = ap (block_among (held_by_view old).areas) (sym s.is) ∙ block_listed (held_by_view old).areas h.begins.areas.apart s.area s.stands.listed ∙ sym (block_listed (held_by_view new).areas r.areas.apart s.area there.listed)
               ∙ ap (block_among (held_by_view new).areas) s.is;
         }
@@ -211,7 +211,7 @@ turned_on functions old new p run begins marks stands h =
 
 -- ---- all of them
 
-module _ (functions : List Mfa) (opening : Opening) (old new : MemberView) (generation : ℕ) (learnt : old.member.generation < length old.seen) (awake : IsAwake new) (r : Reported (IsServed functions) old new generation) where
+module _ (functions : List Mfa) (opening : Opening) (old new : MemberView) (generation : ℕ) (learnt : old.member.generation < length old.seen) (awake : IsAwake new) (r : HoldsReported (IsServed functions) old new generation) where
   same_known : (p : ℕ) → known_of new p ≡ known_of old p
   same_known p = ap (λ (m : MemberView). known_of m p) r.view
 
@@ -232,11 +232,11 @@ module _ (functions : List Mfa) (opening : Opening) (old new : MemberView) (gene
   rests_on p run (rests_ended h) = rests_ended (record {
     over = h.over;
     left = h.left;
-    empty = λ kind serial held. h.empty kind serial (subst (λ (xs : List ℕ). slots.Holds kind xs serial) (same_named p) held);
+    empty = λ kind serial held. h.empty kind serial (subst (λ (xs : List ℕ). slots.HoldsAnchors kind xs serial) (same_named p) held);
     killed = λ serial some_serial. subst (λ (xs : List ℕ). HasAnchor tells_kill xs serial ↔ (run.fin ≡ Some (Killed serial))) (sym (same_named p)) (h.killed serial some_serial);
   })
 
-  held_on : (p : ℕ) (spawn : Spawn) (run : ProcessRun) → IsHeld functions opening old p spawn run → IsHeld functions opening new p spawn run
+  held_on : (p : ℕ) (spawn : SpawnedProcess) (run : ProcessRun) → IsHeld functions opening old p spawn run → IsHeld functions opening new p spawn run
   held_on p spawn run h =
       let process : Process = run.process in
       let stands : stand_under new run ≡ stand_under old run =
@@ -254,7 +254,7 @@ module _ (functions : List Mfa) (opening : Opening) (old new : MemberView) (gene
         rests = rests_on p run h.rests;
       }
 
-  place_on : (taken : List Spawn) (p : ℕ) (place : Option ProcessRun) → IsHeldAt functions opening old taken p place → IsHeldAt functions opening new taken p place
+  place_on : (taken : List SpawnedProcess) (p : ℕ) (place : Option ProcessRun) → IsHeldAt functions opening old taken p place → IsHeldAt functions opening new taken p place
   place_on taken p None h = (
     record {
       marks = ap (λ (x : ProcessView). x.marks) (same_known p) ∙ h.0.marks;
@@ -266,5 +266,5 @@ module _ (functions : List Mfa) (opening : Opening) (old new : MemberView) (gene
   place_on taken p (Some run) h = (h.0, (h.1.0, (h.1.1.0, held_on p h.0 run h.1.1.1)))
 
   -- a report keeps what a scheduler knows of its processes
-  pub report_keeps : (taken : List Spawn) (processes : List (Option ProcessRun)) → KeepsProcesses functions opening old taken processes → KeepsProcesses functions opening new taken processes
+  pub report_keeps : (taken : List SpawnedProcess) (processes : List (Option ProcessRun)) → KeepsProcesses functions opening old taken processes → KeepsProcesses functions opening new taken processes
   report_keeps taken processes h = record { all = h.all; each = λ p place at. place_on taken p place (h.each p place at) }

@@ -9,7 +9,7 @@ use Rattle.term_core.specs.declared.atom.Mfa.{Mfa}
 use Rattle.term_core.specs.declared.no_memory.NoMemory.{NoMemory}
 use Rattle.term_core.specs.declared.hold.Kind.TheVariants.{Frame}
 use Rattle.area_core.specs.declared.table.Published.{Published}
-use Rattle.area_core.specs.Generations.{is_doomed}
+use Rattle.area_core.specs.Generations.{is_doomed_area}
 use Rattle.marks.specs.declared.mark.ProcessView.{ProcessView}
 use Rattle.shared_words.specs.declared.opening.Opening.{Opening}
 use Rattle.shared_words.specs.declared.seats.Member as tokens
@@ -93,7 +93,7 @@ module _ (functions : List Mfa) (opening : Opening) (table : TableId) (a b : tok
         let killed = killed_for shown.reads stood serial (turn.gives.end_is ∙ is) in
         record {
           named = held_names Frame (anchors_of (view_of b) before.number) serial (ap (λ (h : HoldsOf). is_among h.frames serial) turn.holds ∙ killed.held);
-          doomed = ap (λ (g : Published). is_doomed g serial) held_still ∙ killed.doomed;
+          doomed = ap (λ (g : Published). is_doomed_area g serial) held_still ∙ killed.doomed;
         }
     ends_by (Ended fin) is = tt
 

@@ -11,7 +11,7 @@ use Rattle.shared_words.specs.Processes.{AreCopied}
 use Rattle.shared_words.specs.Seats.{IsMemberSeat, IsRooted, IsSameSeat, member_of, root_held}
 use Rattle.shared_words.specs.Slots.{with_slot}
 use Rattle.shared_words.specs.Views.{published_at, root_word}
-use Rattle.progress_words.specs.Reports.{IsAwake, Reported}
+use Rattle.progress_words.specs.Reports.{IsAwake, HoldsReported}
 use Rattle.progress_words.specs.Tokens.{IsMemberOf, IsSameMember}
 use Rattle.anchors.specs.Holds.{view_of}
 use Rattle.anchors.proofs.Stored.{seat_still}
@@ -50,7 +50,7 @@ token_moved table old new h seat same root slots held learnt =
 
 -- ---- a report
 
-pub token_reported : (Served : Published → Type 0) (table : TableId) (old new : tokens.Member) (generation : ℕ) → IsToken table old → IsMemberOf table new → IsSameMember old new → Reported Served (view_of old) (view_of new) generation
+pub token_reported : (Served : Published → Type 0) (table : TableId) (old new : tokens.Member) (generation : ℕ) → IsToken table old → IsMemberOf table new → IsSameMember old new → HoldsReported Served (view_of old) (view_of new) generation
     → IsRooted new.root (view_of new) → IsToken table new
 token_reported Served table old new generation h seat same r rooted = record {
   seat = seat;
@@ -58,7 +58,7 @@ token_reported Served table old new generation h seat same r rooted = record {
   rooted = rooted;
 }
 
-pub between_reported : (Served : Published → Type 0) (old new : MemberView) (generation : ℕ) → IsBetweenTurns old → IsAwake new → Reported Served old new generation → IsBetweenTurns new
+pub between_reported : (Served : Published → Type 0) (old new : MemberView) (generation : ℕ) → IsBetweenTurns old → IsAwake new → HoldsReported Served old new generation → IsBetweenTurns new
 between_reported Served old new generation h awake r = record {
   awake = awake;
   follows = ap (λ (m : MemberView). m.member.role) r.view ∙ ap (role_knowing r.counter) h.follows;

@@ -9,14 +9,14 @@ use Rattle.marks.specs.declared.kept.LookKind.{LookKind}
 use Rattle.marks.specs.declared.kept.LookKind.TheVariants.{Both, Frame}
 use Rattle.marks.specs.declared.mark.Mark.{Mark}
 use Rattle.marks.specs.declared.mark.ProcessView.{ProcessView}
-use Rattle.marks.specs.Names.{Names}
+use Rattle.marks.specs.Names.{MarkNames}
 use Rattle.shared_words.specs.declared.opening.Opening.{Opening}
 use Rattle.shared_words.specs.declared.seats.Member as tokens
 use Rattle.shared_words.specs.declared.view.MemberView.{MemberView}
 use Rattle.shared_words.specs.Processes.{AreCopied, process_of}
 use Rattle.shared_words.specs.Seats.{IsMemberSeat}
 use Rattle.shared_words.specs.Slots.{with_slot}
-use Rattle.anchors.specs.Holds.{Holds, MayRun, anchors_of, view_of}
+use Rattle.anchors.specs.Holds.{HoldsAnchors, MayRun, anchors_of, view_of}
 use Rattle.anchors.specs.Turns.{LAST_TURN, MayMark}
 use Rattle.anchors.proofs.Stored.{run_still}
 use Rattle.machine_core.specs.declared.process.TurnEnd.{TurnEnd}
@@ -38,7 +38,7 @@ marks_ended process Again old mid ends = ap (λ (m : MemberView). (process_of m 
 marks_ended process (Ended fin) old mid ends = ap (λ (p : ProcessView). p.marks) ends.stored.slot
 
 -- who names nothing for frames or literals names nothing in either kind of looks
-none_named : (anchors : List ℕ) → ((kind : Kind) (serial : ℕ) → Holds kind anchors serial → ⊥) → (kind : LookKind) (serial : ℕ) → Names kind anchors serial → ⊥
+none_named : (anchors : List ℕ) → ((kind : Kind) (serial : ℕ) → HoldsAnchors kind anchors serial → ⊥) → (kind : LookKind) (serial : ℕ) → MarkNames kind anchors serial → ⊥
 none_named anchors empty Frame serial named = empty kinds.Frame serial (record { place = named.place; word = named.word; at = named.at; passes = named.passes })
 none_named anchors empty Both serial named =
     elim (or_cases (names_frame named.word serial) (names_literal named.word serial) named.passes) as (λ _. ⊥) [

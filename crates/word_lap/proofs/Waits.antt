@@ -7,7 +7,7 @@ use Rattle.shared_words.specs.declared.view.MemberView.{MemberView}
 use Rattle.shared_words.specs.Kinds.{MayEnter, now_entering, now_waiting}
 use Rattle.shared_words.specs.Processes.{AreCopied}
 use Rattle.shared_words.specs.Seats.{IsRooted}
-use Rattle.progress_words.specs.Reports.{IsAwake, Reported}
+use Rattle.progress_words.specs.Reports.{IsAwake, HoldsReported}
 use Rattle.progress_words.specs.Tokens.{IsMemberOf, IsSameMember}
 use Rattle.anchors.specs.Holds.{view_of}
 use Rattle.word_view.proofs.Lapping.{copies_stay}
@@ -27,11 +27,11 @@ waits_now table old new h between seat same waits = record {
 pub may_wake : (table : TableId) (token : tokens.Member) → IsWaiting table token → MayEnter (view_of token)
 may_wake table token h = subst MayEnter (sym h.1.waits) refl
 
-module _ (Served : Published → Type 0) (table : TableId) (old new : tokens.Member) (generation : ℕ) (r : Reported Served (now_entering (view_of old)) (view_of new) generation) where
+module _ (Served : Published → Type 0) (table : TableId) (old new : tokens.Member) (generation : ℕ) (r : HoldsReported Served (now_entering (view_of old)) (view_of new) generation) where
   -- what holds of a report behind the wait holds of one behind what the member knew before
-  pub report_woken : (before : MemberView) → WaitsAfter table before old → Reported Served before (view_of new) generation
+  pub report_woken : (before : MemberView) → WaitsAfter table before old → HoldsReported Served before (view_of new) generation
   report_woken before h =
-      let woken : Reported Served (now_entering (now_waiting before)) (view_of new) generation = subst (λ (m : MemberView). Reported Served (now_entering m) (view_of new) generation) h.waits r in
+      let woken : HoldsReported Served (now_entering (now_waiting before)) (view_of new) generation = subst (λ (m : MemberView). HoldsReported Served (now_entering m) (view_of new) generation) h.waits r in
       record {
         counter = woken.counter;
         range = woken.range;

@@ -11,15 +11,15 @@ use Rattle.shared_words.specs.declared.seats.Note as notes
 use Rattle.shared_words.specs.declared.view.MemberView.{MemberView}
 use Rattle.shared_words.specs.Notes.{note_joined}
 use Rattle.shared_words.specs.Processes.{held_by_view}
-use Rattle.shared_words.specs.Views.{newest, published_at}
-use Rattle.progress_words.specs.Reports.{Reported}
+use Rattle.shared_words.specs.Views.{newest_number, published_at}
+use Rattle.progress_words.specs.Reports.{HoldsReported}
 use Rattle.progress_words.specs.Tokens.{IsMemberOf, IsNoteOf, IsSameMember, noted_by}
 use Rattle.anchors.specs.Holds.{view_of}
 use Rattle.inbox.specs.Ends.{Taking, took}
-use Rattle.area_core.specs.Readers.{is_of}
+use Rattle.area_core.specs.Readers.{is_slot_of}
 use Rattle.area_core.specs.declared.readers.Slots.TheVariants.{OfMember}
 use Rattle.code_law.specs.Served.{IsServed}
-use Rattle.run_law.specs.Newcomers.{Spawn}
+use Rattle.run_law.specs.Newcomers.{SpawnedProcess}
 use Rattle.word_lap.specs.declared.process_run.ProcessRun.{ProcessRun}
 use Rattle.word_lap.specs.Newcomers.{IsNoted, IsNotedIn}
 use Rattle.word_lap.specs.Schedulers.{IsBetweenTurns, IsToken, KeepsProcesses}
@@ -37,20 +37,20 @@ noted_in named table number published note is h = subst (λ (o : Option TableId)
 pub note_of : (named : Option TableId) (table : TableId) (number published : ℕ) (note : notes.Note) → named ≡ Some table → IsNoted named number published note → IsNoteOf table note.process note
 note_of named table number published note is h = record { process = refl; seat = (noted_in named table number published note is h).of.seat }
 
-own_process : (member count process : ℕ) → 0 < count → process % count ≡ member → IsTrue (is_of (OfMember member count) process)
+own_process : (member count process : ℕ) → 0 < count → process % count ≡ member → IsTrue (is_slot_of (OfMember member count) process)
 own_process member count process some own =
     and_from (not (count == 0)) (process % count == member) (not_from_false (count == 0) (ne_eqb count 0 (λ none. absurd (omega (arith, some, none))))) (eq-eqb (process % count) member own)
 
 -- and its process is one of the member's
 pub note_own : (named : Option TableId) (table : TableId) (number published member count : ℕ) (note : notes.Note) → named ≡ Some table → IsNoted named number published note → 0 < count → number % count ≡ member
-    → IsTrue (is_of (OfMember member count) note.process)
+    → IsTrue (is_slot_of (OfMember member count) note.process)
 note_own named table number published member count note is h some own =
-    subst (λ (p : ℕ). IsTrue (is_of (OfMember member count) p)) (sym (noted_in named table number published note is h).of.process) (own_process member count number some own)
+    subst (λ (p : ℕ). IsTrue (is_slot_of (OfMember member count) p)) (sym (noted_in named table number published note is h).of.process) (own_process member count number some own)
 
 -- ---- the process
 
 -- the process before its first turn
-pub record IsFresh (spawn : Spawn) (run : ProcessRun) : Type 0 where
+pub record IsFresh (spawn : SpawnedProcess) (run : ProcessRun) : Type 0 where
   pub number : run.process.number ≡ spawn.number
   pub target : run.process.target ≡ spawn.target
   pub args : run.process.args ≡ spawn.args
@@ -59,13 +59,13 @@ pub record IsFresh (spawn : Spawn) (run : ProcessRun) : Type 0 where
   pub spans : run.spans ≡ []
   pub fin : run.fin ≡ None
 
-module _ (functions : List Mfa) (opening : Opening) (table : TableId) (old mid new : tokens.Member) (note : notes.Note) (spawn : Spawn) (run : ProcessRun) (generation : ℕ) (processes : List (Option ProcessRun)) where
+module _ (functions : List Mfa) (opening : Opening) (table : TableId) (old mid new : tokens.Member) (note : notes.Note) (spawn : SpawnedProcess) (run : ProcessRun) (generation : ℕ) (processes : List (Option ProcessRun)) where
   abbrev m : MemberView
   m = view_of mid
 
-  module _ (token : IsToken table old) (reached : IsToken table mid) (number : mid.number ≡ old.number) (between : IsBetweenTurns m) (r : Reported (IsServed functions) (view_of old) m generation) (caught : spawn.published ≤ generation) (noted : IsNotedIn table spawn.number spawn.published note)
+  module _ (token : IsToken table old) (reached : IsToken table mid) (number : mid.number ≡ old.number) (between : IsBetweenTurns m) (r : HoldsReported (IsServed functions) (view_of old) m generation) (caught : spawn.published ≤ generation) (noted : IsNotedIn table spawn.number spawn.published note)
       (joined : view_of new ≡ note_joined (noted_by note) m) (fresh : IsFresh spawn run) (free : IsFreeFor spawn.number old.number opening.members processes) where
-    own_newest : m.member.generation ≡ newest m.seen
+    own_newest : m.member.generation ≡ newest_number m.seen
     own_newest = ap (λ (x : MemberView). x.member.generation) r.view
 
     learnt : spawn.published ≤ m.member.generation
@@ -94,7 +94,7 @@ module _ (functions : List Mfa) (opening : Opening) (table : TableId) (old mid n
     welcome_token seat same root = token_moved table mid new reached seat same root slots_are (ap (λ (x : MemberView). x.member.generation) view_is) (ap (λ (x : MemberView). x.seen) view_is)
 
     -- what a scheduler keeps is kept, with one process more
-    pub welcome_keeps : (taken : List Spawn) → KeepsProcesses functions opening (view_of old) taken processes
+    pub welcome_keeps : (taken : List SpawnedProcess) → KeepsProcesses functions opening (view_of old) taken processes
         → KeepsProcesses functions opening (view_of new) (taken ++ spawn ∷ []) (slice_set processes spawn.number (Some run))
     welcome_keeps taken h =
         let here = report_keeps functions opening (view_of old) m generation token.rooted.learnt between.awake r taken processes h in
@@ -107,19 +107,19 @@ module _ (functions : List Mfa) (opening : Opening) (table : TableId) (old mid n
 -- ---- one after another
 
 -- what does not belong here is let go
-pub let_go_keeps : (functions : List Mfa) (table : TableId) (opening : Opening) (token : tokens.Member) (spawn : Spawn) (processes : List (Option ProcessRun)) → IsToken table token → BelongsNot spawn.number token.number opening.members processes
-    → (taken : List Spawn) → KeepsProcesses functions opening (view_of token) taken processes → KeepsProcesses functions opening (view_of token) (taken ++ spawn ∷ []) processes
+pub let_go_keeps : (functions : List Mfa) (table : TableId) (opening : Opening) (token : tokens.Member) (spawn : SpawnedProcess) (processes : List (Option ProcessRun)) → IsToken table token → BelongsNot spawn.number token.number opening.members processes
+    → (taken : List SpawnedProcess) → KeepsProcesses functions opening (view_of token) taken processes → KeepsProcesses functions opening (view_of token) (taken ++ spawn ∷ []) processes
 let_go_keeps functions table opening token spawn processes h apart taken kept =
     let_go functions opening (view_of token) taken spawn processes (λ p at is. subst (λ (n : ℕ). p % opening.members ≢ n) (sym h.seat.numbered) (apart p at is)) kept
 
 -- the same where the code has these numbers otherwise
-pub let_go_here : (functions : List Mfa) (table : TableId) (opening : Opening) (token : tokens.Member) (spawn : Spawn) (number member members : ℕ) (processes : List (Option ProcessRun)) → spawn.number ≡ number → token.number ≡ member → members ≡ opening.members → IsToken table token
-    → BelongsNot number member members processes → (taken : List Spawn) → KeepsProcesses functions opening (view_of token) taken processes → KeepsProcesses functions opening (view_of token) (taken ++ spawn ∷ []) processes
+pub let_go_here : (functions : List Mfa) (table : TableId) (opening : Opening) (token : tokens.Member) (spawn : SpawnedProcess) (number member members : ℕ) (processes : List (Option ProcessRun)) → spawn.number ≡ number → token.number ≡ member → members ≡ opening.members → IsToken table token
+    → BelongsNot number member members processes → (taken : List SpawnedProcess) → KeepsProcesses functions opening (view_of token) taken processes → KeepsProcesses functions opening (view_of token) (taken ++ spawn ∷ []) processes
 let_go_here functions table opening token spawn number member members processes is own count h apart =
     let_go_keeps functions table opening token spawn processes h (λ p at same mine. apart p at (sym is ∙ same) (ap (λ (n : ℕ). p % n) count ∙ mine ∙ own))
 
 -- what came was taken in
-pub record TakenSteps (functions : List Mfa) (table : TableId) (opening : Opening) (old new : tokens.Member) (before after : Taking Spawn) (was now : List (Option ProcessRun)) : Type 0 where
+pub record TakenSteps (functions : List Mfa) (table : TableId) (opening : Opening) (old new : tokens.Member) (before after : Taking SpawnedProcess) (was now : List (Option ProcessRun)) : Type 0 where
   pub token : IsToken table new
   pub number : new.number ≡ old.number
   pub between : IsBetweenTurns (view_of new)
@@ -127,19 +127,19 @@ pub record TakenSteps (functions : List Mfa) (table : TableId) (opening : Openin
   pub inbox : after.number ≡ before.number
   pub kept : KeepsProcesses functions opening (view_of old) before.taken was → KeepsProcesses functions opening (view_of new) after.taken now
 
-module _ (functions : List Mfa) (table : TableId) (opening : Opening) (old : tokens.Member) (before : Taking Spawn) (was : List (Option ProcessRun)) where
+module _ (functions : List Mfa) (table : TableId) (opening : Opening) (old : tokens.Member) (before : Taking SpawnedProcess) (was : List (Option ProcessRun)) where
   pub taken_begins : IsToken table old → IsBetweenTurns (view_of old) → length was ≡ PROCESSES → TakenSteps functions table opening old old before before was was
   taken_begins token between all = record { token = token; number = refl; between = between; all = all; inbox = refl; kept = λ h. h }
 
-  pub taken_goes_on : (mid new : tokens.Member) (at after : Taking Spawn) (now later : List (Option ProcessRun)) (spawn : Spawn) → TakenSteps functions table opening old mid before at was now → after ≡ took at spawn → IsToken table new
+  pub taken_goes_on : (mid new : tokens.Member) (at after : Taking SpawnedProcess) (now later : List (Option ProcessRun)) (spawn : SpawnedProcess) → TakenSteps functions table opening old mid before at was now → after ≡ took at spawn → IsToken table new
       → new.number ≡ mid.number → IsBetweenTurns (view_of new) → length later ≡ PROCESSES
-      → ((taken : List Spawn) → KeepsProcesses functions opening (view_of mid) taken now → KeepsProcesses functions opening (view_of new) (taken ++ spawn ∷ []) later)
+      → ((taken : List SpawnedProcess) → KeepsProcesses functions opening (view_of mid) taken now → KeepsProcesses functions opening (view_of new) (taken ++ spawn ∷ []) later)
       → TakenSteps functions table opening old new before after was later
   taken_goes_on mid new at after now later spawn h is token number between all kept = record {
     token = token;
     number = number ∙ h.number;
     between = between;
     all = all;
-    inbox = ap (λ (t : Taking Spawn). t.number) is ∙ h.inbox;
-    kept = λ first. subst (λ (t : Taking Spawn). KeepsProcesses functions opening (view_of new) t.taken later) (sym is) (kept at.taken (h.kept first));
+    inbox = ap (λ (t : Taking SpawnedProcess). t.number) is ∙ h.inbox;
+    kept = λ first. subst (λ (t : Taking SpawnedProcess). KeepsProcesses functions opening (view_of new) t.taken later) (sym is) (kept at.taken (h.kept first));
   }

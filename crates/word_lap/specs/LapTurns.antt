@@ -5,7 +5,7 @@ use Rattle.term_core.specs.declared.atom.Mfa.{Mfa}
 use Rattle.shared_words.specs.declared.opening.Opening.{Opening}
 use Rattle.shared_words.specs.declared.view.MemberView.{MemberView}
 use Rattle.run_steps.specs.MadeTurns.{turned_by}
-use Rattle.run_law.specs.Newcomers.{Spawn}
+use Rattle.run_law.specs.Newcomers.{SpawnedProcess}
 use Rattle.word_lap.specs.declared.process_run.ProcessRun.{ProcessRun}
 use Rattle.word_lap.specs.Reading.{stand_under}
 use Rattle.word_lap.specs.Schedulers.{KeepsProcesses}
@@ -46,10 +46,10 @@ pub record HoldsAsBefore (old new : MemberView) : Type 0 where
 
 -- a scheduler keeps its processes, for some list of what was taken
 pub record SomeKept (functions : List Mfa) (opening : Opening) (m : MemberView) (processes : List (Option ProcessRun)) : Type 0 where
-  pub taken : List Spawn
+  pub taken : List SpawnedProcess
   pub kept : KeepsProcesses functions opening m taken processes
 
 -- turns keep what a scheduler knows of its processes
 abbrev pub HadTurns : List Mfa → Opening → MemberView → MemberView → List (Option ProcessRun) → List (Option ProcessRun) → Type 0
 HadTurns functions opening old new before after =
-    (taken : List Spawn) → KeepsProcesses functions opening old taken before → KeepsProcesses functions opening new taken after
+    (taken : List SpawnedProcess) → KeepsProcesses functions opening old taken before → KeepsProcesses functions opening new taken after

@@ -10,7 +10,7 @@ use Rattle.machine_core.specs.declared.process.End.TheVariants.{Killed}
 use Rattle.marks.specs.Names.{HasAnchor, tells_kill}
 use Rattle.shared_words.specs.declared.view.MemberView.{MemberView}
 use Rattle.anchors.specs.Drops.{AnchorsStored, IsDoomed}
-use Rattle.anchors.specs.Holds.{Holds, anchors_of}
+use Rattle.anchors.specs.Holds.{HoldsAnchors, anchors_of}
 
 -- the member tried to lead: it follows as before, and knows the same of generations and processes
 pub record HasTried (old new : MemberView) : Type 0 where
@@ -34,7 +34,7 @@ pub record HasClearedAt (process place : ℕ) (old new : MemberView) : Type 0 wh
 -- the process names nothing any more, and tells of kills as before; else nothing is changed
 pub record HasDroppedAll (process : ℕ) (old new : MemberView) : Type 0 where
   pub stored : AnchorsStored process old new
-  pub empty : (kind : Kind) (serial : ℕ) → Holds kind (anchors_of new process) serial → ⊥
+  pub empty : (kind : Kind) (serial : ℕ) → HoldsAnchors kind (anchors_of new process) serial → ⊥
   pub kills : (serial : ℕ) → HasAnchor tells_kill (anchors_of new process) serial ↔ HasAnchor tells_kill (anchors_of old process) serial
 
 -- the instance that killed a process which ended so
@@ -49,12 +49,12 @@ TellsOf process fin m = (serial : ℕ) → 0 < serial → HasAnchor tells_kill (
 -- the process has ended so: it names nothing, and its slot tells how it ended
 pub record HasEndedIn (process : ℕ) (fin : End) (old new : MemberView) : Type 0 where
   pub stored : AnchorsStored process old new
-  pub empty : (kind : Kind) (serial : ℕ) → Holds kind (anchors_of new process) serial → ⊥
+  pub empty : (kind : Kind) (serial : ℕ) → HoldsAnchors kind (anchors_of new process) serial → ⊥
   pub killed : TellsOf process fin new
 
 -- an instance that killed the process had a frame of it, and is doomed in the generation that the member holds
 pub record MayKill (process serial : ℕ) (m : MemberView) : Type 0 where
-  pub named : Holds Frame (anchors_of m process) serial
+  pub named : HoldsAnchors Frame (anchors_of m process) serial
   pub doomed : IsDoomed serial m
 
 -- a process may have ended so

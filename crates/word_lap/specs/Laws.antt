@@ -10,7 +10,7 @@ use Rattle.shared_words.specs.declared.opening.Opening.{Opening}
 use Rattle.shared_words.specs.declared.seats.Member as tokens
 use Rattle.shared_words.specs.declared.view.MemberView.{MemberView}
 use Rattle.shared_words.specs.Making.{IsMemberBegun}
-use Rattle.progress_words.specs.Reports.{IsAwake, Reported}
+use Rattle.progress_words.specs.Reports.{IsAwake, HoldsReported}
 use Rattle.anchors.specs.Holds.{view_of}
 use Rattle.mod_core.specs.declared.code.Module.{Module}
 use Rattle.script_core.specs.Processes.{SpawnLine}
@@ -20,7 +20,7 @@ use Rattle.run_steps.specs.Stands.{end_of, phase_of}
 use Rattle.code_law.specs.Served.{IsServed}
 use Rattle.run_law.specs.Ended.{HasNotRun, HasRun}
 use Rattle.run_law.specs.Laws.{AreLearnt}
-use Rattle.run_law.specs.Newcomers.{IsTaken, Spawn}
+use Rattle.run_law.specs.Newcomers.{IsTaken, SpawnedProcess}
 use Rattle.word_lap.specs.declared.process_run.ProcessRun.{ProcessRun}
 use Rattle.word_lap.specs.Laps.{HasTried}
 use Rattle.word_lap.specs.Schedulers.{IsBetweenTurns, IsToken, KeepsProcesses}
@@ -44,14 +44,14 @@ SchedulersBegin =
 -- a report keeps what a scheduler knows of its processes
 abbrev pub ReportsKeepProcesses : Type 0
 ReportsKeepProcesses =
-    (functions : List Mfa) (opening : Opening) (old new : MemberView) (generation : ℕ) (taken : List Spawn) (processes : List (Option ProcessRun))
-    → old.member.generation < length old.seen → IsAwake new → Reported (IsServed functions) old new generation
+    (functions : List Mfa) (opening : Opening) (old new : MemberView) (generation : ℕ) (taken : List SpawnedProcess) (processes : List (Option ProcessRun))
+    → old.member.generation < length old.seen → IsAwake new → HoldsReported (IsServed functions) old new generation
     → KeepsProcesses functions opening old taken processes → KeepsProcesses functions opening new taken processes
 
 -- so does an attempt to lead
 abbrev pub AttemptsKeepProcesses : Type 0
 AttemptsKeepProcesses =
-    (functions : List Mfa) (opening : Opening) (old new : MemberView) (taken : List Spawn) (processes : List (Option ProcessRun))
+    (functions : List Mfa) (opening : Opening) (old new : MemberView) (taken : List SpawnedProcess) (processes : List (Option ProcessRun))
     → HasTried old new → KeepsProcesses functions opening old taken processes → KeepsProcesses functions opening new taken processes
 
 -- ---- the end
@@ -74,7 +74,7 @@ log_of_run run = record { target = run.process.target; args = run.process.args; 
 -- has run as its log tells
 abbrev pub TakenHaveRun : Type 0
 TakenHaveRun =
-    (functions : List Mfa) (opening : Opening) (m last : MemberView) (taken : List Spawn) (processes : List (Option ProcessRun))
+    (functions : List Mfa) (opening : Opening) (m last : MemberView) (taken : List SpawnedProcess) (processes : List (Option ProcessRun))
     (texts : List Module) (journal : List Entry) (number : ℕ) (line : SpawnLine)
     → KeepsProcesses functions opening m taken processes → HaveAllEnded processes → KnowsTheSame m last → AreLearnt functions texts journal m.seen
     → number < PROCESSES → number % opening.members ≡ m.member.number → IsTaken journal number line taken
@@ -83,7 +83,7 @@ TakenHaveRun =
 -- where nothing was taken under a number, no process of it has run
 abbrev pub OthersHaveNotRun : Type 0
 OthersHaveNotRun =
-    (functions : List Mfa) (opening : Opening) (m last : MemberView) (taken : List Spawn) (processes : List (Option ProcessRun)) (number : ℕ)
+    (functions : List Mfa) (opening : Opening) (m last : MemberView) (taken : List SpawnedProcess) (processes : List (Option ProcessRun)) (number : ℕ)
     → KeepsProcesses functions opening m taken processes → KnowsTheSame m last
-    → number < PROCESSES → ((spawn : Spawn) → Among taken spawn → spawn.number ≢ number)
+    → number < PROCESSES → ((spawn : SpawnedProcess) → Among taken spawn → spawn.number ≢ number)
     → HasNotRun last number

@@ -8,7 +8,7 @@ use Rattle.term_core.specs.declared.atom.Mfa.{Mfa}
 use Rattle.term_core.specs.declared.hold.Kind.{Kind}
 use Rattle.area_core.specs.declared.map.TheConstants.{PROCESSES}
 use Rattle.area_core.specs.Blocks.{Among}
-use Rattle.area_core.specs.Generations.{names}
+use Rattle.area_core.specs.Generations.{anchor_names_area}
 use Rattle.marks.specs.Names.{HasAnchor, tells_kill}
 use Rattle.shared_words.specs.declared.opening.Opening.{Opening}
 use Rattle.shared_words.specs.declared.seats.Member as tokens
@@ -16,7 +16,7 @@ use Rattle.shared_words.specs.declared.view.MemberView.{MemberView}
 use Rattle.shared_words.specs.Processes.{AreAtRest, AreCopied, held_by_view, note_in, process_of}
 use Rattle.shared_words.specs.Seats.{IsMemberSeat, IsRooted}
 use Rattle.progress_words.specs.Reports.{IsAwake}
-use Rattle.anchors.specs.Holds.{Holds, anchors_of, view_of}
+use Rattle.anchors.specs.Holds.{HoldsAnchors, anchors_of, view_of}
 use Rattle.machine_core.specs.declared.process.End.TheVariants.{Killed}
 use Rattle.machine_core.specs.declared.process.TheConstants.{MOST_TURNS}
 use Rattle.machine_core.specs.Turn.{MayTurn}
@@ -26,7 +26,7 @@ use Rattle.word_view.specs.Anchored.{holds_by}
 use Rattle.word_view.specs.Laps.{NamesNothing}
 use Rattle.word_view.specs.Views.{MayBegin, StandsIn, shown_by}
 use Rattle.run_law.specs.Ended.{HasTurned}
-use Rattle.run_law.specs.Newcomers.{Spawn}
+use Rattle.run_law.specs.Newcomers.{SpawnedProcess}
 use Rattle.word_lap.specs.declared.process_run.ProcessRun.{ProcessRun}
 use Rattle.word_lap.specs.Reading.{stand_under}
 
@@ -44,7 +44,7 @@ pub record HasCounted (run : ProcessRun) : Type 0 where
 -- a turn of it may begin under the generation that the member holds, in which each area stands that its slot names
 pub record IsAtHand (functions : List Mfa) (opening : Opening) (p : ℕ) (m : MemberView) : Type 0 where
   pub begins : MayBegin functions opening p m
-  pub named : (serial : ℕ) → HasAnchor names (anchors_of m p) serial → StandsIn (held_by_view m) serial
+  pub named : (serial : ℕ) → HasAnchor anchor_names_area (anchors_of m p) serial → StandsIn (held_by_view m) serial
 
 -- what it names is what its slot names, and it may have its next turn under the generation that the member holds
 pub record MayGoOn (functions : List Mfa) (opening : Opening) (m : MemberView) (p : ℕ) (run : ProcessRun) : Type 0 where
@@ -57,7 +57,7 @@ pub record MayGoOn (functions : List Mfa) (opening : Opening) (m : MemberView) (
 pub record HasEnded (m : MemberView) (p : ℕ) (run : ProcessRun) : Type 0 where
   pub over : IsSome run.fin
   pub left : run.process.frames ≡ []
-  pub empty : (kind : Kind) (serial : ℕ) → Holds kind (anchors_of m p) serial → ⊥
+  pub empty : (kind : Kind) (serial : ℕ) → HoldsAnchors kind (anchors_of m p) serial → ⊥
   pub killed : (serial : ℕ) → 0 < serial → HasAnchor tells_kill (anchors_of m p) serial ↔ (run.fin ≡ Some (Killed serial))
 
 -- where it stands between two turns: it may go on, or it has ended
@@ -66,7 +66,7 @@ pub data Rests (functions : List Mfa) (opening : Opening) (m : MemberView) (p : 
   rests_ended : HasEnded m p run → Rests functions opening m p run
 
 -- what is known of the process at a place, which was spawned so
-pub record IsHeld (functions : List Mfa) (opening : Opening) (m : MemberView) (p : ℕ) (spawn : Spawn) (run : ProcessRun) : Type 0 where
+pub record IsHeld (functions : List Mfa) (opening : Opening) (m : MemberView) (p : ℕ) (spawn : SpawnedProcess) (run : ProcessRun) : Type 0 where
   pub number : run.process.number ≡ p
   pub target : run.process.target ≡ spawn.target
   pub args : run.process.args ≡ spawn.args
@@ -83,9 +83,9 @@ pub record IsEmpty (m : MemberView) (p : ℕ) : Type 0 where
 -- ---- a scheduler
 
 -- what was taken and belongs here stands at its place: the first that came for it
-abbrev pub IsHeldAt : List Mfa → Opening → MemberView → List Spawn → ℕ → Option ProcessRun → Type 0
-IsHeldAt functions opening m taken p None = IsEmpty m p × ((spawn : Spawn) → Among taken spawn → spawn.number ≡ p → p % opening.members ≢ m.member.number)
-IsHeldAt functions opening m taken p (Some run) = (spawn : Spawn) × (Among taken spawn × ((spawn.number ≡ p) × IsHeld functions opening m p spawn run))
+abbrev pub IsHeldAt : List Mfa → Opening → MemberView → List SpawnedProcess → ℕ → Option ProcessRun → Type 0
+IsHeldAt functions opening m taken p None = IsEmpty m p × ((spawn : SpawnedProcess) → Among taken spawn → spawn.number ≡ p → p % opening.members ≢ m.member.number)
+IsHeldAt functions opening m taken p (Some run) = (spawn : SpawnedProcess) × (Among taken spawn × ((spawn.number ≡ p) × IsHeld functions opening m p spawn run))
 
 -- the token is that of a member of this table, with a right copy of its anchors and the root of the generation that it holds
 pub record IsToken (table : TableId) (token : tokens.Member) : Type 0 where
@@ -100,6 +100,6 @@ pub record IsBetweenTurns (m : MemberView) : Type 0 where
   pub rest : AreAtRest m
 
 -- what a scheduler keeps of its processes
-pub record KeepsProcesses (functions : List Mfa) (opening : Opening) (m : MemberView) (taken : List Spawn) (processes : List (Option ProcessRun)) : Type 0 where
+pub record KeepsProcesses (functions : List Mfa) (opening : Opening) (m : MemberView) (taken : List SpawnedProcess) (processes : List (Option ProcessRun)) : Type 0 where
   pub all : length processes ≡ PROCESSES
   pub each : (p : ℕ) (place : Option ProcessRun) → slice_get processes p ≡ Some place → IsHeldAt functions opening m taken p place

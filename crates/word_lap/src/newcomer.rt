@@ -29,10 +29,10 @@ impl<T: TableName> Model for Newcomer<T> {
     ghost use Rattle.std.specs.Coded.{codes};
     ghost use Rattle.term_core.specs.contracts.atom.Mfa as mfa_contracts;
     ghost use Rattle.term_core.specs.contracts.term.TermList as args_contracts;
-    ghost use Rattle.run_law.specs.Newcomers.{Spawn};
+    ghost use Rattle.run_law.specs.Newcomers.{SpawnedProcess};
     ghost use Rattle.word_lap.specs.Newcomers.{IsNoted};
 
-    ghost Value = { Spawn };
+    ghost Value = { SpawnedProcess };
 
     ghost coded = { Prim.hlevel (codes, mfa_contracts.the_row.coded, args_contracts.the_row.coded) };
 

@@ -2,7 +2,7 @@
 
 ghost use Rattle.std.specs.Prelude.{◌≡◌, ◌≤◌};
 ghost use Rattle.progress_words.specs.Leads.{IsLeader};
-ghost use Rattle.progress_words.specs.Reports.{Reported};
+ghost use Rattle.progress_words.specs.Reports.{HoldsReported};
 ghost use Rattle.anchors.specs.Holds.{view_of};
 ghost use Rattle.word_lap.specs.Laps.{HasTried};
 ghost use Rattle.word_lap.specs.Schedulers.{IsBetweenTurns, IsToken};
@@ -24,7 +24,7 @@ pub fn catch_up<N: Served, R: Wait>(
     ensures token { IsToken shared.now.table.shared.table_id member.new }
     ensures number { member.new.number ≡ member.old.number }
     ensures between { IsBetweenTurns (view_of member.new) }
-    ensures reported { Reported N.served (view_of member.old) (view_of member.new) result }
+    ensures reported { HoldsReported N.served (view_of member.old) (view_of member.new) result }
     ensures caught { floor ≤ result }
 {
     let mut generation = report_once(shared, member);
@@ -45,7 +45,7 @@ fn report_once<N: Served>(shared: &Shared<N>, member: &mut Member) -> u64
     ensures token { IsToken shared.now.table.shared.table_id member.new }
     ensures number { member.new.number ≡ member.old.number }
     ensures between { IsBetweenTurns (view_of member.new) }
-    ensures reported { Reported N.served (view_of member.old) (view_of member.new) result }
+    ensures reported { HoldsReported N.served (view_of member.old) (view_of member.new) result }
 {
     report(shared, member)
 }

@@ -2,7 +2,7 @@
 
 ghost use Rattle.std.specs.Prelude.{◌≡◌};
 ghost use Rattle.shared_words.specs.declared.view.MemberView.{MemberView};
-ghost use Rattle.progress_words.specs.Reports.{Reported};
+ghost use Rattle.progress_words.specs.Reports.{HoldsReported};
 ghost use Rattle.anchors.specs.Holds.{view_of};
 ghost use Rattle.word_lap.specs.Schedulers.{IsBetweenTurns, IsToken};
 ghost use Rattle.word_lap.specs.Waiting.{IsWaiting, WaitsAfter};
@@ -28,7 +28,7 @@ pub fn end_wait<N: Served>(shared: &Shared<N>, member: &mut Member) -> u64
     ensures token { IsToken shared.now.table.shared.table_id member.new }
     ensures number { member.new.number ≡ member.old.number }
     ensures between { IsBetweenTurns (view_of member.new) }
-    ensures reported { (before : MemberView) → WaitsAfter shared.now.table.shared.table_id before member.old → Reported N.served before (view_of member.new) result }
+    ensures reported { (before : MemberView) → WaitsAfter shared.now.table.shared.table_id before member.old → HoldsReported N.served before (view_of member.new) result }
 {
     wake(shared, member)
 }

@@ -37,7 +37,7 @@ literal_no_frame : ◌≡◌ {A = Kind} Literal Frame → ⊥
 literal_no_frame e = absurd (cc)
 
 -- for whatever it names an area, it names it
-names_any : (kind : Kind) (word serial : ℕ) → names_for kind word serial ≡ true → tests.names word serial ≡ true
+names_any : (kind : Kind) (word serial : ℕ) → names_for kind word serial ≡ true → tests.anchor_names_area word serial ≡ true
 names_any Frame word serial e =
     let parts = and_parts (word % 2 == 1) (serial_in word == serial) e in
     let odd = eqb-true (word % 2) 1 parts.0 in
@@ -46,11 +46,11 @@ names_any Literal word serial e =
     let parts = and_parts (nat_le 2 (word % 4)) (serial_in word == serial) e in
     and_from (not (word % 4 == 0)) (serial_in word == serial) (literal_kind (word % 4) parts.0) parts.1
 
-pub named_any : (kind : Kind) (anchors : List ℕ) (serial : ℕ) → slots.Holds kind anchors serial → HasAnchor tests.names anchors serial
+pub named_any : (kind : Kind) (anchors : List ℕ) (serial : ℕ) → slots.HoldsAnchors kind anchors serial → HasAnchor tests.anchor_names_area anchors serial
 named_any kind anchors serial h = record { place = h.place; word = h.word; at = h.at; passes = names_any kind h.word serial h.passes }
 
 -- and the other way, it names it for one of both
-pub names_either : (word serial : ℕ) → tests.names word serial ≡ true → (names_frame word serial ≡ true) ⊎ (names_literal word serial ≡ true)
+pub names_either : (word serial : ℕ) → tests.anchor_names_area word serial ≡ true → (names_frame word serial ≡ true) ⊎ (names_literal word serial ≡ true)
 names_either word serial e =
     let parts = and_parts (is_naming word) (serial_in word == serial) e in
     elim (cases_Bool (word % 2 == 1)) as (λ _. (names_frame word serial ≡ true) ⊎ (names_literal word serial ≡ true)) [
@@ -83,16 +83,16 @@ module _ (kind : Kind) (serial : ℕ) where
       behind false e = e
 
   -- and the other way
-  pub among_named : (anchors : List ℕ) → is_among (named_for kind anchors) serial ≡ true → slots.Holds kind anchors serial
+  pub among_named : (anchors : List ℕ) → is_among (named_for kind anchors) serial ≡ true → slots.HoldsAnchors kind anchors serial
   among_named [] e = absurd (cc)
   among_named (x ∷ xs) e = choose (names_for kind x (serial_in x)) refl e (among_named xs)
     where
-      later : slots.Holds kind xs serial → slots.Holds kind (x ∷ xs) serial
+      later : slots.HoldsAnchors kind xs serial → slots.HoldsAnchors kind (x ∷ xs) serial
       later h = record { place = suc h.place; word = h.word; at = h.at; passes = h.passes }
 
-      choose : (b : Bool) → names_for kind x (serial_in x) ≡ b → is_among (if b then serial_in x ∷ named_for kind xs else named_for kind xs) serial ≡ true → (is_among (named_for kind xs) serial ≡ true → slots.Holds kind xs serial) → slots.Holds kind (x ∷ xs) serial
+      choose : (b : Bool) → names_for kind x (serial_in x) ≡ b → is_among (if b then serial_in x ∷ named_for kind xs else named_for kind xs) serial ≡ true → (is_among (named_for kind xs) serial ≡ true → slots.HoldsAnchors kind xs serial) → slots.HoldsAnchors kind (x ∷ xs) serial
       choose true is e rest =
-          elim (or_cases (serial_in x == serial) (is_among (named_for kind xs) serial) e) as (λ _. slots.Holds kind (x ∷ xs) serial) [
+          elim (or_cases (serial_in x == serial) (is_among (named_for kind xs) serial) e) as (λ _. slots.HoldsAnchors kind (x ∷ xs) serial) [
             | inl here ↦ record { place = 0; word = x; at = refl; passes = sym (ap (names_for kind x) (eqb-true (serial_in x) serial here)) ∙ is }
             | inr behind ↦ later (rest behind)
           ]
@@ -105,7 +105,7 @@ held_is Frame anchors serial = among-serials_of (named_for Frame anchors) serial
 held_is Literal anchors serial = among-serials_of (named_for Literal anchors) serial
 
 -- what is held an anchor names
-pub held_names : (kind : Kind) (anchors : List ℕ) (serial : ℕ) → IsTrue (is_held (holds_by anchors) serial kind) → slots.Holds kind anchors serial
+pub held_names : (kind : Kind) (anchors : List ℕ) (serial : ℕ) → IsTrue (is_held (holds_by anchors) serial kind) → slots.HoldsAnchors kind anchors serial
 held_names kind anchors serial held = among_named kind serial anchors (sym (held_is kind anchors serial) ∙ held)
 
 -- two tests that say the same
@@ -145,7 +145,7 @@ module _ (old new : MemberView) (process : ℕ) (kind : Kind) (serial : ℕ) (h 
             | inr was ↦ now q ((h.names k q).1 (inl (among_named k q before was)))
           ]
         where
-          now : (q : ℕ) → slots.Holds k after q → is_among (named_for k after) q ≡ true
+          now : (q : ℕ) → slots.HoldsAnchors k after q → is_among (named_for k after) q ≡ true
           now q n = named_among k q after n.place n.word n.at n.passes
 
   -- in the other kind all is as before

@@ -5,7 +5,7 @@ use Rattle.term_core.specs.declared.area.CodeRef.{CodeRef}
 use Rattle.term_core.specs.declared.atom.Mfa.{Mfa}
 use Rattle.term_core.specs.declared.generation.FunctionRef.{FunctionRef}
 use Rattle.area_core.specs.declared.table.Published.{Published}
-use Rattle.area_core.specs.Roots.{image_of}
+use Rattle.area_core.specs.Roots.{serial_image}
 use Rattle.shared_words.specs.declared.opening.Opening.{Opening}
 use Rattle.shared_words.specs.declared.view.MemberView.{MemberView}
 use Rattle.shared_words.specs.Processes.{held_by_view}
@@ -54,7 +54,7 @@ module _ (names : List Mfa) (opening : Opening) (process : ℕ) (m : MemberView)
         words = s.words;
         stands = s.stands;
         once = once names opening process m h;
-        headed = begins_with names p.state h.served.of f.serial s.words (some_of f.function (shown.reads.functions f.serial) known) (ap (image_of p.state.areas) (sym s.is) ∙ s.stands.image);
+        headed = begins_with names p.state h.served.of f.serial s.words (some_of f.function (shown.reads.functions f.serial) known) (ap (serial_image p.state.areas) (sym s.is) ∙ s.stands.image);
       }
     where
       some_of : (i n : ℕ) → i < n → 0 < n

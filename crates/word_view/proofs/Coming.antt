@@ -15,12 +15,12 @@ use Rattle.area_core.specs.declared.table.Published.{Published}
 use Rattle.area_core.specs.Blocks.{Among}
 use Rattle.area_core.specs.Generations as tests
 use Rattle.area_core.specs.Generations.{holds_area, is_current, is_entry_word, is_key_area}
-use Rattle.area_core.specs.Roots.{image_of}
+use Rattle.area_core.specs.Roots.{serial_image}
 use Rattle.marks.specs.Names.{HasAnchor}
 use Rattle.shared_words.specs.declared.opening.Opening.{Opening}
 use Rattle.shared_words.specs.declared.view.MemberView.{MemberView}
 use Rattle.shared_words.specs.Processes.{held_by_view}
-use Rattle.shared_words.specs.Rule.{AreApart}
+use Rattle.shared_words.specs.Rule.{AreAreasApart}
 use Rattle.anchors.specs.Holds as slots
 use Rattle.machine_core.specs.GenerationReads.{block_among, held_value, holding_among, is_term_image, words_in}
 use Rattle.machine_core.specs.Holds.{is_area_held, is_held}
@@ -53,7 +53,7 @@ block_listed (b ∷ areas) apart a (i, at) = choose (b.serial == a.serial) refl 
     choose false e rest = rest (behind i at (λ same. true≢false (sym (eq-eqb b.serial a.serial same) ∙ e)))
 
 -- so what stands in its block is that area
-pub area_in_block : (p : Published) → AreApart p → (serial : ℕ) (s : StandsIn p serial) (block : ℕ) → block ≡ block_among p.areas serial → s.area ≡ record { serial = serial; block = block }
+pub area_in_block : (p : Published) → AreAreasApart p → (serial : ℕ) (s : StandsIn p serial) (block : ℕ) → block ≡ block_among p.areas serial → s.area ≡ record { serial = serial; block = block }
 area_in_block p apart serial s block is =
     let here = block_listed p.areas apart s.area s.stands.listed in
     λ i. record { serial = s.is i; block = sym (is ∙ ap (block_among p.areas) (sym s.is) ∙ here) i }
@@ -141,9 +141,9 @@ module _ (names : List Mfa) (opening : Opening) (process : ℕ) (m : MemberView)
   stands_read serial (inr literal) = stands_held serial Literal literal
 
   -- an area that is held is named
-  pub names_held : (serial : ℕ) → IsTrue (is_area_held (holds_by anchors) serial) → HasAnchor tests.names anchors serial
+  pub names_held : (serial : ℕ) → IsTrue (is_area_held (holds_by anchors) serial) → HasAnchor tests.anchor_names_area anchors serial
   names_held serial held =
-      elim (or_cases (is_held (holds_by anchors) serial Frame) (is_held (holds_by anchors) serial Literal) held) as (λ _. HasAnchor tests.names anchors serial) [
+      elim (or_cases (is_held (holds_by anchors) serial Frame) (is_held (holds_by anchors) serial Literal) held) as (λ _. HasAnchor tests.anchor_names_area anchors serial) [
         | inl frame ↦ named_any Frame anchors serial (held_names Frame anchors serial frame)
         | inr literal ↦ named_any Literal anchors serial (held_names Literal anchors serial literal)
       ]
@@ -158,7 +158,7 @@ module _ (names : List Mfa) (opening : Opening) (process : ℕ) (m : MemberView)
 
   -- the words that it shows of an area that stands
   shown_words : (serial : ℕ) (s : StandsIn p serial) → (shown_by names p).words serial ≡ s.words
-  shown_words serial s = ap (λ (o : Option (List ℕ)). unwrap_or o []) (sym (image_same p.state.areas serial) ∙ ap (image_of p.state.areas) (sym s.is) ∙ s.stands.image)
+  shown_words serial s = ap (λ (o : Option (List ℕ)). unwrap_or o []) (sym (image_same p.state.areas serial) ∙ ap (serial_image p.state.areas) (sym s.is) ∙ s.stands.image)
 
   -- a place that may be asked for may be read
   pub readable_at : (area : AreaRef) (at : ℕ) → IsInBlock (shown_by names p) area → IsReadable (shown_by names p) area.serial at → MayRead (shown_by names p).reads (holds_by anchors) area.serial → IsReadAt m area.block at

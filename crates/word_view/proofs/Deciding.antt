@@ -9,7 +9,7 @@ use Rattle.term_core.specs.declared.area.CodeRef.{CodeRef}
 use Rattle.term_core.specs.declared.atom.Mfa.{Mfa}
 use Rattle.term_core.specs.declared.hold.Kind.TheVariants.{Frame}
 use Rattle.area_core.specs.declared.table.Published.{Published}
-use Rattle.area_core.specs.Generations.{functions_of, has_function, has_image, has_serial, is_current, is_instance, is_retired, is_traced}
+use Rattle.area_core.specs.Generations.{functions_in_image, has_function, has_image, has_serial, is_current, is_instance, is_retired_area, is_traced_function}
 use Rattle.shared_words.specs.declared.opening.Opening.{Opening}
 use Rattle.shared_words.specs.declared.seats.Member as tokens
 use Rattle.shared_words.specs.declared.view.MemberView.{MemberView}
@@ -34,12 +34,12 @@ less_test : (a b : ℕ) → a < b → nat_lt a b ≡ true
 less_test a b less = grind (arith, nat_tests)
 
 -- an image with so many functions has each of them
-in_image : (function : ℕ) (words : List ℕ) → function < function_count words → nat_lt function (functions_of words) ≡ true
+in_image : (function : ℕ) (words : List ℕ) → function < function_count words → nat_lt function (functions_in_image words) ≡ true
 in_image function words known = by_kind (is_term_image words) known
   where
-    by_kind : (b : Bool) → function < (if b then 0 else slice_index words 3) → nat_lt function (functions_of words) ≡ true
+    by_kind : (b : Bool) → function < (if b then 0 else slice_index words 3) → nat_lt function (functions_in_image words) ≡ true
     by_kind true none = absurd (omega (arith, none))
-    by_kind false less = less_test function (functions_of words) (subst (λ (n : ℕ). function < n) (sym (unwrap_or-slice_get words 3 0)) less)
+    by_kind false less = less_test function (functions_in_image words) (subst (λ (n : ℕ). function < n) (sym (unwrap_or-slice_get words 3 0)) less)
 
 -- what was looked up was read
 pub looked_read : (old new : tokens.Member) → HasLookedUp old new → HasRead old new
@@ -61,7 +61,7 @@ module _ (names : List Mfa) (opening : Opening) (process : ℕ) (m : MemberView)
     knows = forgets_none names p.state h.served.of
 
     -- what was not dropped is current or old code
-    live : is_retired p at.area.serial ≡ false → IsTrue (is_instance p at.area.serial)
+    live : is_retired_area p at.area.serial ≡ false → IsTrue (is_instance p at.area.serial)
     live kept =
         elim (knows.kept at.area.serial (omega (arith, known)) kept) as (λ _. is_instance p at.area.serial ≡ true) [
           | inl current ↦ or_left (has_serial p.state.current at.area.serial) (has_serial p.state.old at.area.serial) current
@@ -69,9 +69,9 @@ module _ (names : List Mfa) (opening : Opening) (process : ℕ) (m : MemberView)
         ]
 
     -- and has a big block, so what has a small one is not traced
-    pub small_untraced : 64 ≤ at.area.block → is_traced p at.area.serial at.function ≡ false
+    pub small_untraced : 64 ≤ at.area.block → is_traced_function p at.area.serial at.function ≡ false
     small_untraced small =
-        elim (cases_Bool (is_retired p at.area.serial)) as (λ _. is_traced p at.area.serial at.function ≡ false) [
+        elim (cases_Bool (is_retired_area p at.area.serial)) as (λ _. is_traced_function p at.area.serial at.function ≡ false) [
           | inl dropped ↦ knows.traced at.area.serial at.function dropped
           | inr kept ↦ let last = (h.placed at.area is_area.listed (live kept)).last in absurd (omega (arith, small, last))
         ]
@@ -87,7 +87,7 @@ module _ (names : List Mfa) (opening : Opening) (process : ℕ) (m : MemberView)
     has : (words : List ℕ) → at.area.block < 64 → has_image p.state.areas at.area.serial words ≡ true → has_function (record { area = at.area; words = words }) at.function ≡ true
     has words big image =
         let is : words_in p.state at.area.serial ≡ words = ap (λ (o : Option (List ℕ)). unwrap_or o []) (sym (image_same p.state.areas at.area.serial) ∙ (once names opening process m h).images at.area.serial words image) in
-        and_from (nat_lt at.area.block 64) (nat_lt at.function (functions_of words)) (less_test at.area.block 64 big) (in_image at.function words (subst (λ (w : List ℕ). at.function < function_count w) is known))
+        and_from (nat_lt at.area.block 64) (nat_lt at.function (functions_in_image words)) (less_test at.area.block 64 big) (in_image at.function words (subst (λ (w : List ℕ). at.function < function_count w) is known))
 
     pub may_decide : (root : ℕ) → IsReading root m → at.area.block < 64 → MayDecide root m at
     may_decide root reading big = record {

@@ -9,12 +9,12 @@ use Rattle.term_core.specs.Image.{IsImageAt, term_at}
 use Rattle.term_core.specs.Plain.{term_of}
 use Rattle.area_core.specs.declared.table.Published.{Published}
 use Rattle.area_core.specs.Generations as tests
-use Rattle.area_core.specs.Roots.{image_of}
+use Rattle.area_core.specs.Roots.{serial_image}
 use Rattle.marks.specs.Names.{HasAnchor}
 use Rattle.shared_words.specs.declared.seats.Member as tokens
 use Rattle.shared_words.specs.declared.view.MemberView.{MemberView}
 use Rattle.shared_words.specs.Processes.{held_by_view}
-use Rattle.progress_words.specs.Reports.{Reported}
+use Rattle.progress_words.specs.Reports.{HoldsReported}
 use Rattle.anchors.specs.Holds.{anchors_of, view_of}
 use Rattle.machine_core.specs.declared.process.Frame.{Frame}
 use Rattle.machine_core.specs.declared.process.LitRef.{LitRef}
@@ -22,7 +22,7 @@ use Rattle.machine_core.specs.declared.process.Process.{Process}
 use Rattle.machine_core.specs.declared.process.Value.{Value}
 use Rattle.machine_core.specs.declared.process.Value.TheVariants.{Literal, Owned}
 use Rattle.machine_core.specs.Decode.{instr_shown, op_at}
-use Rattle.machine_core.specs.GenerationReads.{block_among, function_count, is_term_image, row_of, words_in}
+use Rattle.machine_core.specs.GenerationReads.{block_among, function_count, is_term_image, function_row, words_in}
 use Rattle.machine_core.specs.Holds.{Holds, is_among, is_area_held}
 use Rattle.machine_core.specs.Process.{PlainFrame, code_names, frame_of, frames_of, literal, process_of, value_areas, value_shown, values_shown}
 use Rattle.machine_core.specs.Reads.{entry_at}
@@ -111,7 +111,7 @@ module _ (names : List Mfa) (p q : Published) where
   placed_on : (f : PlainFrame) → IsSame f.serial → IsPlaced (shown_by names p).reads f → IsPlaced (shown_by names q).reads f
   placed_on f same h = record {
     known = subst (λ (words : List ℕ). f.function < function_count words) same.words h.known;
-    at = subst (λ (words : List ℕ). IsPlaceIn (slice_index words (row_of (entry_at f) + 3)) (λ place. instr_shown words (op_at words place)) f.place) same.words h.at;
+    at = subst (λ (words : List ℕ). IsPlaceIn (slice_index words (function_row (entry_at f) + 3)) (λ place. instr_shown words (op_at words place)) f.place) same.words h.at;
     back = h.back;
   }
 
@@ -153,7 +153,7 @@ module _ (names : List Mfa) (p q : Published) where
 
 -- ---- over a report
 
-module _ (v : Viewed) (b : tokens.Member) (generation : ℕ) (h : IsView v) (r : Reported (IsServed v.names) (view_of v.token) (view_of b) generation) where
+module _ (v : Viewed) (b : tokens.Member) (generation : ℕ) (h : IsView v) (r : HoldsReported (IsServed v.names) (view_of v.token) (view_of b) generation) where
   abbrev m : MemberView
   m = view_of v.token
 
@@ -167,10 +167,10 @@ module _ (v : Viewed) (b : tokens.Member) (generation : ℕ) (h : IsView v) (r :
   same_area serial held =
       let anchor = names_held v.names v.opening v.process m h.reader serial held in
       let s : StandsIn p serial = h.reader.named serial anchor in
-      let there = r.named s.area (v.process, subst (HasAnchor tests.names (anchors_of m v.process)) (sym s.is) anchor) s.stands.listed in
+      let there = r.named s.area (v.process, subst (HasAnchor tests.anchor_names_area (anchors_of m v.process)) (sym s.is) anchor) s.stands.listed in
       record {
         words = ap (λ (o : Option (List ℕ)). unwrap_or o [])
-            (sym (image_same p.state.areas serial) ∙ ap (image_of p.state.areas) (sym s.is) ∙ sym there.image ∙ ap (image_of q.state.areas) s.is ∙ image_same q.state.areas serial);
+            (sym (image_same p.state.areas serial) ∙ ap (serial_image p.state.areas) (sym s.is) ∙ sym there.image ∙ ap (serial_image q.state.areas) s.is ∙ image_same q.state.areas serial);
         block = ap (block_among p.areas) (sym s.is) ∙ block_listed p.areas h.reader.areas s.area s.stands.listed ∙ sym (block_listed q.areas r.areas.apart s.area there.listed) ∙ ap (block_among q.areas) s.is;
       }
 

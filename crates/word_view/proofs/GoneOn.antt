@@ -6,7 +6,7 @@ use Rattle.term_core.specs.declared.hold.Kind.{Kind}
 use Rattle.shared_words.specs.declared.seats.Member as tokens
 use Rattle.shared_words.specs.declared.view.BlockWord.{BlockWord}
 use Rattle.shared_words.specs.declared.view.MemberView.{MemberView}
-use Rattle.shared_words.specs.Seats.{IsMemberSeat, IsSameSeat, Place}
+use Rattle.shared_words.specs.Seats.{IsMemberSeat, IsSameSeat, SeatPlace}
 use Rattle.anchors.specs.Drops.{AnchorsStored}
 use Rattle.anchors.specs.Holds.{HasHeld, view_of}
 use Rattle.anchors.proofs.Stored.{hold_stored, more_stored, none_stored}
@@ -14,7 +14,7 @@ use Rattle.word_view.specs.Loaded.{HasRead}
 use Rattle.word_view.specs.Views.{HasGoneOn, IsFrom, IsView, IsViewFrom, Viewed}
 use Rattle.word_view.proofs.Reading.{view_still}
 
-same_on : (a b c : Place) → IsSameSeat a b → IsSameSeat b c → IsSameSeat a c
+same_on : (a b c : SeatPlace) → IsSameSeat a b → IsSameSeat b c → IsSameSeat a c
 same_on a b c first second = record {
   same_table = second.same_table ∙ first.same_table;
   same_number = second.same_number ∙ first.same_number;

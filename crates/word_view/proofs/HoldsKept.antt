@@ -10,7 +10,7 @@ use Rattle.marks.specs.Names.{HasAnchor}
 use Rattle.shared_words.specs.declared.seats.Member as tokens
 use Rattle.shared_words.specs.declared.view.MemberView.{MemberView}
 use Rattle.shared_words.specs.Processes.{AreCopied, held_by_view}
-use Rattle.shared_words.specs.Rule.{AreApart}
+use Rattle.shared_words.specs.Rule.{AreAreasApart}
 use Rattle.shared_words.specs.Seats.{IsMemberSeat}
 use Rattle.anchors.specs.Drops.{AnchorsStored, HasDropped}
 use Rattle.anchors.specs.Holds as slots
@@ -35,7 +35,7 @@ module _ (v : Viewed) (b : tokens.Member) (root : b.root ≡ v.token.root) (stor
   held_kept = ap held_by_view stored.same
 
   pub view_kept : IsMemberSeat v.table b.number b.seat → AreCopied b.anchors.items (view_of b) → IsUnkilled (anchors_of (view_of b) v.process) → AnchorsApart (anchors_of (view_of b) v.process)
-      → ((serial : ℕ) → HasAnchor tests.names (anchors_of (view_of b) v.process) serial → StandsIn (held_by_view m) serial) → IsView v → IsView (record v { token = b })
+      → ((serial : ℕ) → HasAnchor tests.anchor_names_area (anchors_of (view_of b) v.process) serial → StandsIn (held_by_view m) serial) → IsView v → IsView (record v { token = b })
   view_kept token copied unkilled apart named h = record {
     token = token;
     copied = copied;
@@ -45,7 +45,7 @@ module _ (v : Viewed) (b : tokens.Member) (root : b.root ≡ v.token.root) (stor
       unkilled = unkilled;
       apart = apart;
       served = at_held (IsServed v.names) h.reader.served;
-      areas = at_held AreApart h.reader.areas;
+      areas = at_held AreAreasApart h.reader.areas;
       placed = at_held InstancesPlaced h.reader.placed;
       used = at_held (λ (p : Published). (serial : ℕ) → IsTrue (tests.is_used p serial) → StandsIn p serial) h.reader.used;
       named = λ serial anchor. subst (λ (p : Published). StandsIn p serial) (sym held_kept) (named serial anchor);
@@ -58,15 +58,15 @@ module _ (v : Viewed) (b : tokens.Member) (root : b.root ≡ v.token.root) (stor
 -- ---- a hold
 
 -- what is named then stands in the generation
-held_stands : (p : Published) (kind : Kind) (serial : ℕ) (before after : List ℕ) → ((k : Kind) (s : ℕ) → slots.Holds k after s → slots.Holds k before s ⊎ ((k ≡ kind) × (s ≡ serial))) → ((s : ℕ) → HasAnchor tests.names before s → StandsIn p s) → StandsIn p serial
-    → (s : ℕ) → HasAnchor tests.names after s → StandsIn p s
+held_stands : (p : Published) (kind : Kind) (serial : ℕ) (before after : List ℕ) → ((k : Kind) (s : ℕ) → slots.HoldsAnchors k after s → slots.HoldsAnchors k before s ⊎ ((k ≡ kind) × (s ≡ serial))) → ((s : ℕ) → HasAnchor tests.anchor_names_area before s → StandsIn p s) → StandsIn p serial
+    → (s : ℕ) → HasAnchor tests.anchor_names_area after s → StandsIn p s
 held_stands p kind serial before after names was new s anchor =
     elim (names_either anchor.word s anchor.passes) as (λ _. StandsIn p s) [
       | inl frame ↦ of Frame (names Frame s (record { place = anchor.place; word = anchor.word; at = anchor.at; passes = frame }))
       | inr literal ↦ of Literal (names Literal s (record { place = anchor.place; word = anchor.word; at = anchor.at; passes = literal }))
     ]
   where
-    of : (k : Kind) → slots.Holds k before s ⊎ ((k ≡ kind) × (s ≡ serial)) → StandsIn p s
+    of : (k : Kind) → slots.HoldsAnchors k before s ⊎ ((k ≡ kind) × (s ≡ serial)) → StandsIn p s
     of k (inl old) = was s (named_any k before s old)
     of k (inr own) = subst (StandsIn p) (sym own.1) new
 

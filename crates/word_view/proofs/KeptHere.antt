@@ -9,7 +9,7 @@ use Rattle.area_core.specs.declared.table.Published.{Published}
 use Rattle.area_core.specs.Blocks.{Among, AreaStands, ImageStands}
 use Rattle.area_core.specs.Generations.{has_area, has_image, has_serial, is_current, is_kept_as, is_key_area, is_reached, is_used}
 use Rattle.area_core.specs.Map.{block_place}
-use Rattle.area_core.specs.Roots.{image_of}
+use Rattle.area_core.specs.Roots.{serial_image}
 use Rattle.area_core.proofs.Tests.{passed_by}
 use Rattle.shared_words.specs.declared.view.MemberView.{MemberView}
 use Rattle.shared_words.specs.Processes.{held_by_view}
@@ -51,13 +51,13 @@ same_image : (xs ys : List ℕ) (o : Option (List ℕ)) → o ≡ Some xs → o 
 same_image xs ys o first second = ap (λ (x : Option (List ℕ)). unwrap_or x []) (sym first ∙ second)
 
 -- what a slot names
-pub kept_named : (p : Published) (kept : List KeptArea) (a : AreaRef) (words : List ℕ) → image_of p.state.areas a.serial ≡ Some words → IsKeptIn kept p a → IsKeptHere kept a words
+pub kept_named : (p : Published) (kept : List KeptArea) (a : AreaRef) (words : List ℕ) → serial_image p.state.areas a.serial ≡ Some words → IsKeptIn kept p a → IsKeptHere kept a words
 kept_named p kept a words image k = record {
   here = k.area;
   among = k.among;
   is = λ i. record {
     area = k.is i;
-    words = same_image k.area.words words (image_of p.state.areas a.serial) (ap (λ (x : AreaRef). image_of p.state.areas x.serial) (sym k.is) ∙ k.has.image) image i;
+    words = same_image k.area.words words (serial_image p.state.areas a.serial) (ap (λ (x : AreaRef). serial_image p.state.areas x.serial) (sym k.is) ∙ k.has.image) image i;
   };
 }
 
@@ -79,7 +79,7 @@ kept_used p kept a words once stands used =
       among = (found.1, found.2);
       is = λ i. record {
         area = record { serial = serial_is i; block = block_is i };
-        words = same_image k.words words (image_of p.state.areas a.serial) (once.images a.serial k.words parts.1) stands.image i;
+        words = same_image k.words words (serial_image p.state.areas a.serial) (once.images a.serial k.words parts.1) stands.image i;
       };
     }
 

@@ -16,12 +16,12 @@ use Rattle.shared_words.specs.declared.view.MemberView.{MemberView}
 use Rattle.shared_words.specs.declared.view.ProcessSlot.{ProcessSlot}
 use Rattle.shared_words.specs.Kinds.{now_entering, now_waiting}
 use Rattle.shared_words.specs.Processes.{AreAtRest, AreCopied, held_by_view, note_in, process_of, slot_in, under_of}
-use Rattle.shared_words.specs.Rule.{AreApart, HasItsAreas}
+use Rattle.shared_words.specs.Rule.{AreAreasApart, HasItsAreas}
 use Rattle.shared_words.specs.Slots.{with_slot}
-use Rattle.shared_words.specs.Views.{newest, published_at}
+use Rattle.shared_words.specs.Views.{newest_number, published_at}
 use Rattle.shared_words.proofs.AnchorStores.{process_else, process_here}
 use Rattle.shared_words.proofs.RootLoads.{shorter}
-use Rattle.progress_words.specs.Reports.{IsAwake, Reported}
+use Rattle.progress_words.specs.Reports.{IsAwake, HoldsReported}
 use Rattle.anchors.specs.Drops.{AnchorsStored}
 use Rattle.anchors.specs.Holds.{AnchorsApart, IsUnkilled, MayRun, anchors_of, view_of}
 use Rattle.code_law.specs.Served.{IsServed}
@@ -38,12 +38,12 @@ no_kill serial h =
     both_ways (serial == 0) (not-true (serial == 0) parts.1) (eq-eqb serial 0 (omega (arith, of)))
 
 -- nor does it name an area
-no_name : (word serial : ℕ) → word ≡ 0 → tests.names word serial ≡ true → ⊥
+no_name : (word serial : ℕ) → word ≡ 0 → tests.anchor_names_area word serial ≡ true → ⊥
 no_name word serial none passes = both_ways (tests.is_naming word) (ap tests.is_naming none) (and_parts (tests.is_naming word) (tests.serial_in word == serial) passes).0
 
 module _ (names : List Mfa) (opening : Opening) (process published : ℕ) (old new : MemberView) (generation : ℕ) (h : HasComeTo opening process published old)
-    (awake : IsAwake new) (r : Reported (IsServed names) old new generation) where
-  own_newest : new.member.generation ≡ newest new.seen
+    (awake : IsAwake new) (r : HoldsReported (IsServed names) old new generation) where
+  own_newest : new.member.generation ≡ newest_number new.seen
   own_newest = ap (λ (m : MemberView). m.member.generation) r.view
 
   reached : published ≤ new.member.generation
@@ -72,8 +72,8 @@ module _ (names : List Mfa) (opening : Opening) (process published : ℕ) (old n
 
 -- ---- a wake
 
-pub wake_reports : (names : List Mfa) (m new : MemberView) (generation : ℕ) → Reported (IsServed names) (now_entering (now_waiting m)) new generation
-    → Reported (IsServed names) m new generation
+pub wake_reports : (names : List Mfa) (m new : MemberView) (generation : ℕ) → HoldsReported (IsServed names) (now_entering (now_waiting m)) new generation
+    → HoldsReported (IsServed names) m new generation
 wake_reports names m new generation r = record {
   counter = r.counter;
   range = r.range;
@@ -117,10 +117,10 @@ module _ (names : List Mfa) (opening : Opening) (other : ℕ) (old new : MemberV
     unkilled = subst IsUnkilled (sym anchors) h.unkilled;
     apart = subst AnchorsApart (sym anchors) h.apart;
     served = at_held (IsServed names) h.served;
-    areas = at_held AreApart h.areas;
+    areas = at_held AreAreasApart h.areas;
     placed = at_held InstancesPlaced h.placed;
     used = at_held (λ (p : Published). (serial : ℕ) → IsTrue (tests.is_used p serial) → StandsIn p serial) h.used;
-    named = λ serial anchor. subst (λ (p : Published). StandsIn p serial) (sym held_on) (h.named serial (subst (λ (xs : List ℕ). HasAnchor tests.names xs serial) anchors anchor));
+    named = λ serial anchor. subst (λ (p : Published). StandsIn p serial) (sym held_on) (h.named serial (subst (λ (xs : List ℕ). HasAnchor tests.anchor_names_area xs serial) anchors anchor));
   }
 
   -- so both are known of it still

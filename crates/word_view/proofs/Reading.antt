@@ -24,7 +24,7 @@ use Rattle.shared_words.specs.declared.view.View.{View}
 use Rattle.shared_words.specs.declared.view.View.TheVariants.{Member}
 use Rattle.shared_words.specs.Processes.{AreCopied, held_by_view}
 use Rattle.shared_words.specs.Publishing.{MayLoadWord, ReadsHeld, WordTells, is_of_block, with_block_word, word_found}
-use Rattle.shared_words.specs.Seats.{IsMemberSeat, IsSameSeat, Place, member_of}
+use Rattle.shared_words.specs.Seats.{IsMemberSeat, IsSameSeat, SeatPlace, member_of}
 use Rattle.shared_words.proofs.ShownMembers.{there_is}
 use Rattle.anchors.specs.Holds.{view_of}
 use Rattle.word_view.specs.Loaded.{HasRead, IsFound, IsNamedAt, IsReadAt, IsWordThere}
@@ -144,7 +144,7 @@ generation_of_root root m h = parts root (held_by_view m).root.code (held_by_vie
 
 -- ---- what a load leaves
 
-pub token_read : (table : TableId) (number after : ℕ) (old new : Place) (word found : ℕ) → IsMemberSeat table number old → IsSameSeat old new → after ≡ number → new.me.0 ≡ word_found word found old.me.0 → IsMemberSeat table after new
+pub token_read : (table : TableId) (number after : ℕ) (old new : SeatPlace) (word found : ℕ) → IsMemberSeat table number old → IsSameSeat old new → after ≡ number → new.me.0 ≡ word_found word found old.me.0 → IsMemberSeat table after new
 token_read table number after old new word found h same numbered view =
     let is : new.me.0 ≡ Member (with_block_word word found (member_of old.me.0)) = view ∙ ap (word_found word found) h.view in
     record {

@@ -11,10 +11,10 @@ use Rattle.marks.specs.Steps.{HasNote}
 use Rattle.shared_words.specs.declared.opening.Opening.{Opening}
 use Rattle.shared_words.specs.declared.view.MemberView.{MemberView}
 use Rattle.shared_words.specs.Processes.{held_by_view, note_in, under_of}
-use Rattle.shared_words.specs.Rule.{AreApart}
-use Rattle.shared_words.specs.Views.{newest, published_at}
+use Rattle.shared_words.specs.Rule.{AreAreasApart}
+use Rattle.shared_words.specs.Views.{newest_number, published_at}
 use Rattle.shared_words.proofs.RootLoads.{shorter}
-use Rattle.progress_words.specs.Reports.{IsAwake, Reported}
+use Rattle.progress_words.specs.Reports.{IsAwake, HoldsReported}
 use Rattle.anchors.specs.Holds.{AnchorsApart, IsUnkilled, MayRun, anchors_of, view_of}
 use Rattle.code_law.specs.Served.{IsServed}
 use Rattle.word_view.specs.Views.{HasGoneOn, IsReader, MayBegin, NamedListed, StandsIn, Viewed}
@@ -26,8 +26,8 @@ note_still : (o : Option ℕ) (old new : MemberView) → old.member.generation �
 note_still None old new more h = h
 note_still (Some n) old new more h = omega (arith, more, h)
 
-module _ (names : List Mfa) (opening : Opening) (process : ℕ) (old new : MemberView) (generation : ℕ) (h : IsReader names opening process old) (learnt : old.member.generation < length old.seen) (awake : IsAwake new) (r : Reported (IsServed names) old new generation) where
-  own_newest : new.member.generation ≡ newest new.seen
+module _ (names : List Mfa) (opening : Opening) (process : ℕ) (old new : MemberView) (generation : ℕ) (h : IsReader names opening process old) (learnt : old.member.generation < length old.seen) (awake : IsAwake new) (r : HoldsReported (IsServed names) old new generation) where
+  own_newest : new.member.generation ≡ newest_number new.seen
   own_newest = ap (λ (m : MemberView). m.member.generation) r.view
 
   same_anchors : anchors_of new process ≡ anchors_of old process
@@ -49,9 +49,9 @@ module _ (names : List Mfa) (opening : Opening) (process : ℕ) (old new : Membe
 
   named : NamedListed (held_by_view new) (anchors_of new process)
   named serial anchor =
-      let own : HasAnchor tests.names (anchors_of old process) serial = subst (λ (xs : List ℕ). HasAnchor tests.names xs serial) same_anchors anchor in
+      let own : HasAnchor tests.anchor_names_area (anchors_of old process) serial = subst (λ (xs : List ℕ). HasAnchor tests.anchor_names_area xs serial) same_anchors anchor in
       let s : StandsIn (held_by_view old) serial = h.named serial own in
-      let there = r.named s.area (process, subst (HasAnchor tests.names (anchors_of old process)) (sym s.is) own) s.stands.listed in
+      let there = r.named s.area (process, subst (HasAnchor tests.anchor_names_area (anchors_of old process)) (sym s.is) own) s.stands.listed in
       (s.area, there.listed, s.is)
 
   pub report_begins : MayBegin names opening process new
@@ -82,10 +82,10 @@ module _ (v w : Viewed) (other : ℕ) (gone : HasGoneOn v w) (apart : other ≢ 
     unkilled = subst IsUnkilled (sym anchors_on) h.unkilled;
     apart = subst AnchorsApart (sym anchors_on) h.apart;
     served = at_held (IsServed v.names) h.served;
-    areas = at_held AreApart h.areas;
+    areas = at_held AreAreasApart h.areas;
     placed = at_held InstancesPlaced h.placed;
     used = at_held (λ (p : Published). (serial : ℕ) → IsTrue (tests.is_used p serial) → StandsIn p serial) h.used;
-    named = λ serial anchor. subst (λ (p : Published). StandsIn p serial) (sym held_on) (h.named serial (subst (λ (xs : List ℕ). HasAnchor tests.names xs serial) anchors_on anchor));
+    named = λ serial anchor. subst (λ (p : Published). StandsIn p serial) (sym held_on) (h.named serial (subst (λ (xs : List ℕ). HasAnchor tests.anchor_names_area xs serial) anchors_on anchor));
   }
 
   pub other_stays : IsReader w.names w.opening other (view_of w.token)

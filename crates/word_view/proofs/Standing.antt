@@ -10,7 +10,7 @@ use Rattle.area_core.specs.declared.table.Published.{Published}
 use Rattle.area_core.specs.Blocks.{Among, FitsBlock}
 use Rattle.area_core.specs.Generations as tests
 use Rattle.area_core.specs.Generations.{has_area, has_image, is_kept_as}
-use Rattle.area_core.specs.Roots.{image_of}
+use Rattle.area_core.specs.Roots.{serial_image}
 use Rattle.area_core.proofs.Tests.{passed_by}
 use Rattle.marks.specs.Names.{HasAnchor}
 use Rattle.shared_words.specs.declared.opening.Opening.{Opening}
@@ -28,7 +28,7 @@ use Rattle.code_law.proofs.ServedAreas.{images_once}
 use Rattle.code_law.proofs.States.{served_lawful}
 
 -- an area that is kept as the generation has it
-stands_kept : (p : Published) (kept : List KeptArea) (serial : ℕ) → ((image : List ℕ) → has_image p.state.areas serial image ≡ true → image_of p.state.areas serial ≡ Some image) → ((k : KeptArea) → Among kept k → FitsBlock k) → list_any (is_kept_as p serial) kept ≡ true → StandsIn p serial
+stands_kept : (p : Published) (kept : List KeptArea) (serial : ℕ) → ((image : List ℕ) → has_image p.state.areas serial image ≡ true → serial_image p.state.areas serial ≡ Some image) → ((k : KeptArea) → Among kept k → FitsBlock k) → list_any (is_kept_as p serial) kept ≡ true → StandsIn p serial
 stands_kept p kept serial once fit used =
     let found = passed_by (is_kept_as p serial) kept used in
     let k : KeptArea = found.0 in
@@ -44,18 +44,18 @@ stands_kept p kept serial once fit used =
       is = is;
       stands = record {
         listed = subst (Among p.areas) (λ i. record { serial = (eqb-true b.serial serial both.0 ∙ sym is) i; block = eqb-true b.block k.area.block both.1 i }) (there.1, there.2);
-        image = ap (image_of p.state.areas) is ∙ once k.words parts.1;
+        image = ap (serial_image p.state.areas) is ∙ once k.words parts.1;
         fits = fit k (found.1, found.2);
       };
     }
 
 module _ (names : List Mfa) (opening : Opening) (process : ℕ) (m : MemberView) (word found : ℕ) (f : IsFound m word found) (h : MayBegin names opening process m) where
   -- what a slot names is kept
-  stands_named : (serial : ℕ) → HasAnchor tests.names (anchors_of m process) serial → StandsIn (held_by_view m) serial
+  stands_named : (serial : ℕ) → HasAnchor tests.anchor_names_area (anchors_of m process) serial → StandsIn (held_by_view m) serial
   stands_named serial anchor =
       let listed = h.named serial anchor in
       let a : AreaRef = listed.0 in
-      let k = f.named m refl a (process, subst (HasAnchor tests.names (anchors_of m process)) (sym listed.2) anchor) listed.1 in
+      let k = f.named m refl a (process, subst (HasAnchor tests.anchor_names_area (anchors_of m process)) (sym listed.2) anchor) listed.1 in
       record {
         area = k.area.area;
         words = k.area.words;

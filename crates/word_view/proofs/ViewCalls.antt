@@ -14,7 +14,7 @@ use Rattle.term_core.specs.declared.hold.Kind.TheVariants.{Frame}
 use Rattle.mod_core.specs.ModuleImage.{function_place, module_image}
 use Rattle.mod_core.proofs.Places.{place_word}
 use Rattle.area_core.specs.declared.table.Published.{Published}
-use Rattle.area_core.specs.Generations.{has_serial, is_doomed, is_retired, is_traced}
+use Rattle.area_core.specs.Generations.{has_serial, is_doomed_area, is_retired_area, is_traced_function}
 use Rattle.shared_words.specs.declared.seats.Member as tokens
 use Rattle.shared_words.specs.declared.view.MemberView.{MemberView}
 use Rattle.shared_words.specs.Processes.{AreCopied, held_by_view}
@@ -139,7 +139,7 @@ module _ (v old : Viewed) (is : v ≡ old) (h : IsView v) where
     pub decision_may : code.area.block < 64 → MayDecide v.token.root m code
     decision_may big = may_decide v.names v.opening v.process m h.reader code own_lawful own_stands own_known own_come v.token.root h.reading big
 
-    pub decision_value : (b : Bool) → b ≡ is_traced p code.area.serial code.function → b ≡ (shown_of_view old).reads.traced (entry_of code)
+    pub decision_value : (b : Bool) → b ≡ is_traced_function p code.area.serial code.function → b ≡ (shown_of_view old).reads.traced (entry_of code)
     decision_value b told = told ∙ ap (λ (x : Viewed). (shown_of_view x).reads.traced (entry_of code)) is
 
     -- what has a small block has no breakpoint
@@ -153,20 +153,20 @@ module _ (v old : Viewed) (is : v ≡ old) (h : IsView v) where
     told_named =
         named_at v.names v.opening v.process m h.reader area (subst (λ (x : Viewed). IsInBlock (shown_of_view x) area) (sym is) block) (subst (λ (x : Viewed). IsTrue (is_area_held (held_of_view x) area.serial)) (sym is) held)
 
-    pub retired_value : (b : Bool) → b ≡ is_retired p area.serial → b ≡ (shown_of_view old).reads.retired area.serial
+    pub retired_value : (b : Bool) → b ≡ is_retired_area p area.serial → b ≡ (shown_of_view old).reads.retired area.serial
     retired_value b told = told ∙ ap (λ (x : Viewed). (shown_of_view x).reads.retired area.serial) is
 
-    pub doomed_value : (b : Bool) → b ≡ is_doomed p area.serial → b ≡ (shown_of_view old).reads.doomed area.serial
+    pub doomed_value : (b : Bool) → b ≡ is_doomed_area p area.serial → b ≡ (shown_of_view old).reads.doomed area.serial
     doomed_value b told = told ∙ ap (λ (x : Viewed). (shown_of_view x).reads.doomed area.serial) is
 
     -- what is retired is not doomed
-    pub retired_stays : is_retired p area.serial ≡ true → false ≡ is_doomed p area.serial
+    pub retired_stays : is_retired_area p area.serial ≡ true → false ≡ is_doomed_area p area.serial
     retired_stays retired = sym (retired_not_doomed v.names p.state h.reader.served.of area.serial retired)
 
     -- and neither is what has a small block
-    pub small_stays : 64 ≤ area.block → false ≡ is_doomed p area.serial
+    pub small_stays : 64 ≤ area.block → false ≡ is_doomed_area p area.serial
     small_stays small =
-        sym (false_from_ne_true (is_doomed p area.serial) (λ doomed.
+        sym (false_from_ne_true (is_doomed_area p area.serial) (λ doomed.
         let old_code = doomed_old v.names p.state h.reader.served.of area.serial doomed in
         let last = (h.reader.placed area told_named.stands.listed (or_right (has_serial p.state.current area.serial) (has_serial p.state.old area.serial) old_code)).last in
         absurd (omega (arith, small, last))))
@@ -214,7 +214,7 @@ module _ (v old : Viewed) (is : v ≡ old) (h : IsView v) where
 
   -- ---- drops
 
-  pub drop_may : (serial : ℕ) (kind : Kind) → IsTrue (is_held (held_of_view old) serial kind) → slots.Holds kind (anchors_of m v.process) serial
+  pub drop_may : (serial : ℕ) (kind : Kind) → IsTrue (is_held (held_of_view old) serial kind) → slots.HoldsAnchors kind (anchors_of m v.process) serial
   drop_may serial kind held = held_names kind (anchors_of m v.process) serial (subst (λ (x : Viewed). IsTrue (is_held (held_of_view x) serial kind)) (sym is) held)
 
   pub dropped_held : (b : tokens.Member) (serial : ℕ) (kind : Kind) → HasDropped v.process kind serial m (view_of b) → held_of_view (record v { token = b }) ≡ without_hold (held_of_view old) serial kind

@@ -9,7 +9,7 @@ use Rattle.shared_words.specs.declared.view.MemberView.{MemberView}
 use Rattle.shared_words.specs.Kinds.{now_entering, now_waiting}
 use Rattle.shared_words.specs.Processes.{AreAtRest, AreCopied, held_by_view, note_in}
 use Rattle.shared_words.specs.Slots.{with_slot}
-use Rattle.progress_words.specs.Reports.{IsAwake, Reported}
+use Rattle.progress_words.specs.Reports.{IsAwake, HoldsReported}
 use Rattle.anchors.specs.Drops.{AnchorsStored}
 use Rattle.anchors.specs.Holds.{anchors_of, view_of}
 use Rattle.machine_core.specs.declared.process.Process.{Process}
@@ -36,18 +36,18 @@ pub record HasComeTo (opening : Opening) (process published : ℕ) (m : MemberVi
 abbrev pub NewcomersBegin : Type 0
 NewcomersBegin =
     (names : List Mfa) (opening : Opening) (process published : ℕ) (old new : MemberView) (generation : ℕ) → HasComeTo opening process published old → IsAwake new
-    → Reported (IsServed names) old new generation → MayBegin names opening process new
+    → HoldsReported (IsServed names) old new generation → MayBegin names opening process new
 
 -- a report behind a wait is one behind what the member knew when it began to wait
 abbrev pub WakesAreReports : Type 0
 WakesAreReports =
-    (names : List Mfa) (m new : MemberView) (generation : ℕ) → Reported (IsServed names) (now_entering (now_waiting m)) new generation → Reported (IsServed names) m new generation
+    (names : List Mfa) (m new : MemberView) (generation : ℕ) → HoldsReported (IsServed names) (now_entering (now_waiting m)) new generation → HoldsReported (IsServed names) m new generation
 
 -- what a process stands for does not change by a report
 abbrev pub ReportsLeaveProcesses : Type 0
 ReportsLeaveProcesses =
     (v : Viewed) (b : tokens.Member) (generation : ℕ) (process : Process) → IsView v
-    → Reported (IsServed v.names) (view_of v.token) (view_of b) generation → MayTurn (shown_of_view v) (held_of_view v) process
+    → HoldsReported (IsServed v.names) (view_of v.token) (view_of b) generation → MayTurn (shown_of_view v) (held_of_view v) process
     → process_of (shown_of_view v).words process ≡ process_of (shown_by v.names (held_by_view (view_of b))).words process
 
 -- ---- stores

@@ -2,7 +2,7 @@
 -- Source: Erlang/OTP erts internal documentation, CodeLoading: a turn sees one state of the code.
 use Rattle.std.specs.Prelude.{◌≢◌, ℕ}
 use Rattle.shared_words.specs.declared.seats.Member as tokens
-use Rattle.progress_words.specs.Reports.{IsAwake, Reported}
+use Rattle.progress_words.specs.Reports.{IsAwake, HoldsReported}
 use Rattle.shared_words.specs.Processes.{held_by_view}
 use Rattle.anchors.specs.Holds.{anchors_of, view_of}
 use Rattle.machine_core.specs.declared.process.Process.{Process}
@@ -14,7 +14,7 @@ use Rattle.word_view.specs.Views.{HasGoneOn, IsReader, IsView, MayBegin, Viewed,
 -- a member that reports may make turns of the process under the generation that it holds then
 abbrev pub ReportsBegin : Type 0
 ReportsBegin =
-    (v : Viewed) (b : tokens.Member) (generation : ℕ) → IsView v → IsAwake (view_of b) → Reported (IsServed v.names) (view_of v.token) (view_of b) generation → MayBegin v.names v.opening v.process (view_of b)
+    (v : Viewed) (b : tokens.Member) (generation : ℕ) → IsView v → IsAwake (view_of b) → HoldsReported (IsServed v.names) (view_of v.token) (view_of b) generation → MayBegin v.names v.opening v.process (view_of b)
 
 -- what was known of another process of the member is known of it once a view has gone on
 abbrev pub OthersStay : Type 0
@@ -24,5 +24,5 @@ OthersStay =
 -- a process that may have its next turn under one generation may have it under the one that its member holds once it has reported
 abbrev pub TurnsGoOn : Type 0
 TurnsGoOn =
-    (v : Viewed) (b : tokens.Member) (generation : ℕ) (process : Process) → IsView v → Reported (IsServed v.names) (view_of v.token) (view_of b) generation → MayTurn (shown_of_view v) (held_of_view v) process
+    (v : Viewed) (b : tokens.Member) (generation : ℕ) (process : Process) → IsView v → HoldsReported (IsServed v.names) (view_of v.token) (view_of b) generation → MayTurn (shown_of_view v) (held_of_view v) process
     → MayTurn (shown_by v.names (held_by_view (view_of b))) (holds_by (anchors_of (view_of b) v.process)) process

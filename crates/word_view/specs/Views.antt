@@ -8,13 +8,13 @@ use Rattle.term_core.specs.declared.atom.Mfa.{Mfa}
 use Rattle.area_core.specs.declared.table.Published.{Published}
 use Rattle.area_core.specs.Blocks.{Among, FitsBlock, InstancesPlaced}
 use Rattle.area_core.specs.Generations as tests
-use Rattle.area_core.specs.Roots.{image_of}
+use Rattle.area_core.specs.Roots.{serial_image}
 use Rattle.marks.specs.Names.{HasAnchor}
 use Rattle.shared_words.specs.declared.opening.Opening.{Opening}
 use Rattle.shared_words.specs.declared.seats.Member as tokens
 use Rattle.shared_words.specs.declared.view.MemberView.{MemberView}
 use Rattle.shared_words.specs.Processes.{AreCopied, held_by_view}
-use Rattle.shared_words.specs.Rule.{AreApart, HasItsAreas}
+use Rattle.shared_words.specs.Rule.{AreAreasApart, HasItsAreas}
 use Rattle.shared_words.specs.Seats.{IsMemberSeat, IsRooted, IsSameSeat}
 use Rattle.anchors.specs.Drops.{AnchorsStored}
 use Rattle.anchors.specs.Holds.{AnchorsApart, IsUnkilled, MayRun, anchors_of, view_of}
@@ -52,13 +52,13 @@ held_of_view v = holds_by (anchors_of (view_of v.token) v.process)
 -- the generation has the area in this block with this image, for which there is room
 pub record IsAreaOf (p : Published) (area : AreaRef) (words : List ℕ) : Type 0 where
   pub listed : Among p.areas area
-  pub image : image_of p.state.areas area.serial ≡ Some words
+  pub image : serial_image p.state.areas area.serial ≡ Some words
   pub fits : FitsBlock (record { area = area; words = words })
 
 -- the generation has one area and one image of each serial
 pub record AreOnce (p : Published) : Type 0 where
-  pub areas : AreApart p
-  pub images : (serial : ℕ) (image : List ℕ) → tests.has_image p.state.areas serial image ≡ true → image_of p.state.areas serial ≡ Some image
+  pub areas : AreAreasApart p
+  pub images : (serial : ℕ) (image : List ℕ) → tests.has_image p.state.areas serial image ≡ true → serial_image p.state.areas serial ≡ Some image
 
 -- it has an area of this serial
 pub record StandsIn (p : Published) (serial : ℕ) : Type 0 where
@@ -69,7 +69,7 @@ pub record StandsIn (p : Published) (serial : ℕ) : Type 0 where
 
 -- the generation lists each area that these anchors name
 abbrev pub NamedListed : Published → List ℕ → Type 0
-NamedListed p anchors = (serial : ℕ) → HasAnchor tests.names anchors serial → (a : AreaRef) × Among p.areas a × (a.serial ≡ serial)
+NamedListed p anchors = (serial : ℕ) → HasAnchor tests.anchor_names_area anchors serial → (a : AreaRef) × Among p.areas a × (a.serial ≡ serial)
 
 -- ---- what a member knows
 
@@ -93,13 +93,13 @@ pub record IsReader (names : List Mfa) (opening : Opening) (process : ℕ) (m : 
   pub unkilled : IsUnkilled (anchors_of m process)
   pub apart : AnchorsApart (anchors_of m process)
   pub served : IsServed names (held_by_view m)
-  pub areas : AreApart (held_by_view m)
+  pub areas : AreAreasApart (held_by_view m)
   -- current and old instances have big blocks
   pub placed : InstancesPlaced (held_by_view m)
   -- what the generation uses stands in it
   pub used : (serial : ℕ) → IsTrue (tests.is_used (held_by_view m) serial) → StandsIn (held_by_view m) serial
   -- and so does what the slot names
-  pub named : (serial : ℕ) → HasAnchor tests.names (anchors_of m process) serial → StandsIn (held_by_view m) serial
+  pub named : (serial : ℕ) → HasAnchor tests.anchor_names_area (anchors_of m process) serial → StandsIn (held_by_view m) serial
 
 -- what is true of each view
 pub record IsView (v : Viewed) : Type 0 where

@@ -2,7 +2,7 @@
 
 ghost use Rattle.std.specs.Prelude.{◌≡◌, ◌<◌, false, true};
 ghost use Rattle.area_core.specs.declared.map.TheConstants.{BIG_BLOCKS as BIG};
-ghost use Rattle.area_core.specs.Generations.{is_doomed, is_retired, tells};
+ghost use Rattle.area_core.specs.Generations.{is_doomed_area, is_retired_area, tells};
 ghost use Rattle.shared_words.specs.Processes.{held_by_view};
 ghost use Rattle.shared_words.specs.Seats.{IsMemberSeat};
 ghost use Rattle.anchors.specs.Holds.{view_of};
@@ -29,7 +29,7 @@ pub fn retired_in<N: Served>(shared: &Shared<N>, member: &mut Member, area: Area
     requires named { IsNamedAt (view_of member.old) area }
     ensures token { IsMemberSeat shared.now.table.shared.table_id member.new.number member.new.seat }
     ensures read { HasRead member.old member.new }
-    ensures value { result ≡ is_retired (held_by_view (view_of member.old)) area.serial }
+    ensures value { result ≡ is_retired_area (held_by_view (view_of member.old)) area.serial }
 {
     let generation = member.root() / GENERATION_UNIT;
     let word = load(shared, member, retire_word(area.block));
@@ -43,10 +43,10 @@ fn doom_in<N: Served>(shared: &Shared<N>, member: &mut Member, area: AreaRef) ->
     requires reading { IsReading member.old.root (view_of member.old) }
     requires named { IsNamedAt (view_of member.old) area }
     requires big { area.block < BIG }
-    requires there { is_retired (held_by_view (view_of member.old)) area.serial ≡ false }
+    requires there { is_retired_area (held_by_view (view_of member.old)) area.serial ≡ false }
     ensures token { IsMemberSeat shared.now.table.shared.table_id member.new.number member.new.seat }
     ensures read { HasRead member.old member.new }
-    ensures value { result ≡ is_doomed (held_by_view (view_of member.old)) area.serial }
+    ensures value { result ≡ is_doomed_area (held_by_view (view_of member.old)) area.serial }
 {
     let generation = member.root() / GENERATION_UNIT;
     let word = load(shared, member, doom_word(area.block));
@@ -60,10 +60,10 @@ pub fn doomed_in<N: Served>(shared: &Shared<N>, member: &mut Member, area: AreaR
     requires reading { IsReading member.old.root (view_of member.old) }
     requires named { IsNamedAt (view_of member.old) area }
     requires big { area.block < BIG }
-    requires apart { is_retired (held_by_view (view_of member.old)) area.serial ≡ true → is_doomed (held_by_view (view_of member.old)) area.serial ≡ false }
+    requires apart { is_retired_area (held_by_view (view_of member.old)) area.serial ≡ true → is_doomed_area (held_by_view (view_of member.old)) area.serial ≡ false }
     ensures token { IsMemberSeat shared.now.table.shared.table_id member.new.number member.new.seat }
     ensures read { HasRead member.old member.new }
-    ensures value { result ≡ is_doomed (held_by_view (view_of member.old)) area.serial }
+    ensures value { result ≡ is_doomed_area (held_by_view (view_of member.old)) area.serial }
 {
     if retired_in(shared, member, area) {
         return false;

@@ -15,29 +15,29 @@ use Rattle.server_core.specs.CommandTable.{Outcome, apply_of, names_of, not_purg
 use Rattle.server_core.proofs.Changes.{Came, as_before, came, came_in, was_deleted, was_doomed, was_erased, was_purged, was_put, was_released, was_soft_purged, was_traced}
 use Rattle.server_core.proofs.CommandLaws.{put_keeps}
 use Rattle.server_core.proofs.Soundness as server
-use Rattle.module_table.specs.Modules.{Instances, Modules, current_in, old_in, with_instances, with_promoted}
+use Rattle.module_table.specs.Modules.{ModuleInstances, Modules, current_in, old_in, with_instances, with_promoted}
 use Rattle.module_table.proofs.Instances as table
 use Rattle.run_log.specs.declared.logs.Entry.{Entry}
 use Rattle.script_core.proofs.JoinedPlaces.{get_behind}
-use Rattle.write_permit.specs.Agreement.{Agrees, CanFollow, CanFollowNewest, CanPromote, all_promoted, followed, new_modules, newest_followed, newest_of}
+use Rattle.write_permit.specs.Agreement.{AgreesWithServer, CanFollow, CanFollowNewest, CanPromote, all_promoted, followed, new_modules, newest_followed, newest_of}
 
 -- the same, where the server's versions alone are read
-record AgreesIn (ms : List Instances) (vs : List Versions) : Type 0 where
+record AgreesIn (ms : List ModuleInstances) (vs : List Versions) : Type 0 where
   current : (name : ℕ) → current_in ms name ≡ current_among vs name
   old : (name : ℕ) → old_in ms name ≡ old_among vs name
 
-within : (ms : List Instances) (s : ServerState) → Agrees ms s → AgreesIn ms s.versions
+within : (ms : List ModuleInstances) (s : ServerState) → AgreesWithServer ms s → AgreesIn ms s.versions
 within ms s a = record { current = a.current; old = a.old }
 
 -- a state with these versions agrees where they do
-agrees_by : (ms : List Instances) (vs : List Versions) (t : ServerState) → t.versions ≡ vs → AgreesIn ms vs → Agrees ms t
+agrees_by : (ms : List ModuleInstances) (vs : List Versions) (t : ServerState) → t.versions ≡ vs → AgreesIn ms vs → AgreesWithServer ms t
 agrees_by ms vs t e a = record {
   current = λ name. a.current name ∙ ap (λ x. current_among x name) (sym e);
   old = λ name. a.old name ∙ ap (λ x. old_among x name) (sym e);
 }
 
 -- one module's instances change in both
-set_agrees : (ms : List Instances) (vs : List Versions) (name : ℕ) (c d o p : Option ℕ) → c ≡ d → o ≡ p → AgreesIn ms vs
+set_agrees : (ms : List ModuleInstances) (vs : List Versions) (name : ℕ) (c d o p : Option ℕ) → c ≡ d → o ≡ p → AgreesIn ms vs
     → AgreesIn (with_instances ms (record { name = name; current = c; old = o })) (with_versions vs (record { name = name; current = d; old = p }))
 set_agrees ms vs name c d o p e f a = record {
   current = λ k. table.current_set ms (record { name = name; current = c; old = o }) k ∙ (λ i. cond (nat_eq k name) (e i) (a.current k i)) ∙ sym (server.current_set vs (record { name = name; current = d; old = p }) k);
@@ -157,11 +157,11 @@ old_still (r ∷ refs) s m name is none h =
     )
 
 -- the table after a load, and that each module can become current
-record AllFollow (ms : List Instances) (t : ServerState) (vs : List Versions) (refs : List ModRef) : Type 0 where
+record AllFollow (ms : List ModuleInstances) (t : ServerState) (vs : List Versions) (refs : List ModRef) : Type 0 where
   can : CanPromote ms t refs
   agrees : AgreesIn (all_promoted ms t refs) vs
 
-loads_follow : (refs : List ModRef) (modules : List Module) (ms : List Instances) (s t : ServerState) → AreNamed refs modules → AreApart refs → HaveNoOld s.versions refs → AgreesIn ms s.versions → t.versions ≡ (with_all s modules).versions
+loads_follow : (refs : List ModRef) (modules : List Module) (ms : List ModuleInstances) (s t : ServerState) → AreNamed refs modules → AreApart refs → HaveNoOld s.versions refs → AgreesIn ms s.versions → t.versions ≡ (with_all s modules).versions
     → AllFollow ms t (with_all s modules).versions refs
 loads_follow [] [] ms s t named apart none a is = record { can = tt; agrees = a }
 loads_follow [] (m ∷ modules) ms s t named apart none a is = absurd named
@@ -185,9 +185,9 @@ loads_follow (r ∷ refs) (m ∷ modules) ms s t named apart none a is =
 -- ---- each command that publishes
 
 -- the table can follow a command, and then agrees with the state that it led to
-pub record Follows (ms : List Instances) (t : ServerState) (cmd : Cmd) : Type 0 where
+pub record Follows (ms : List ModuleInstances) (t : ServerState) (cmd : Cmd) : Type 0 where
   pub can : CanFollow ms t cmd
-  pub agrees : Agrees (followed ms t cmd) t
+  pub agrees : AgreesWithServer (followed ms t cmd) t
 
 is_there : (o : Option ℕ) → is_none o ≡ false → IsSome o
 is_there None h = absurd (false≢true (sym h))
@@ -198,13 +198,13 @@ none_there None h = refl
 none_there (Some x) h = absurd (false≢true (sym h))
 
 -- a command that changes no versions, and that the table ignores
-kept_follows : (ms : List Instances) (s t : ServerState) (cmd : Cmd) → Agrees ms s → CanFollow ms t cmd → followed ms t cmd ≡ ms → t.versions ≡ s.versions → Follows ms t cmd
-kept_follows ms s t cmd a can same e = record { can = can; agrees = subst (λ x. Agrees x t) (sym same) (agrees_by ms s.versions t e (within ms s a)) }
+kept_follows : (ms : List ModuleInstances) (s t : ServerState) (cmd : Cmd) → AgreesWithServer ms s → CanFollow ms t cmd → followed ms t cmd ≡ ms → t.versions ≡ s.versions → Follows ms t cmd
+kept_follows ms s t cmd a can same e = record { can = can; agrees = subst (λ x. AgreesWithServer x t) (sym same) (agrees_by ms s.versions t e (within ms s a)) }
 
 not_published : {A : Type 0} (o : Outcome) (x : Option ℕ) → IsSome x → x ≡ None → A
 not_published o x some none = absurd (false≢true (sym (ap is_some none) ∙ some))
 
-came_follows : (texts : List Module) (ms : List Instances) (s : ServerState) (cmd : Cmd) (o : Outcome) → Agrees ms s → Came texts s cmd o → IsSome o.answer.published → Follows ms o.state cmd
+came_follows : (texts : List Module) (ms : List ModuleInstances) (s : ServerState) (cmd : Cmd) (o : Outcome) → AgreesWithServer ms s → Came texts s cmd o → IsSome o.answer.published → Follows ms o.state cmd
 came_follows texts ms s cmd o a (as_before reply e) some = not_published o o.answer.published some (ap (λ x. x.answer.published) e)
 came_follows texts ms s cmd o a (was_released serial is retired e) some = not_published o o.answer.published some (ap (λ x. x.answer.published) e)
 came_follows texts ms s cmd o a (came_in refs modules is rest comes e) some =
@@ -232,7 +232,7 @@ came_follows texts ms s cmd o a (was_erased key p is rest held e) some = subst (
 came_follows texts ms s cmd o a (was_traced target on at is rest found other e) some = subst (Follows ms o.state) (sym is) (kept_follows ms s o.state (Trace target on) a tt refl (ap (λ x. x.state.versions) e))
 
 -- a table follows a command that published
-pub follows : (texts : List Module) (ms : List Instances) (s : ServerState) (cmd : Cmd) (o : Outcome) → Agrees ms s → apply_of texts s cmd ≡ Some o → IsSome o.answer.published → Follows ms o.state cmd
+pub follows : (texts : List Module) (ms : List ModuleInstances) (s : ServerState) (cmd : Cmd) (o : Outcome) → AgreesWithServer ms s → apply_of texts s cmd ≡ Some o → IsSome o.answer.published → Follows ms o.state cmd
 follows texts ms s cmd o a applied some = came_follows texts ms s cmd o a (came texts s cmd o applied) some
 
 unpublished_same : (texts : List Module) (s : ServerState) (cmd : Cmd) (o : Outcome) → Came texts s cmd o → o.answer.published ≡ None → o.state.versions ≡ s.versions
@@ -248,26 +248,26 @@ unpublished_same texts s cmd o (was_erased key p is rest held e) none = absurd (
 unpublished_same texts s cmd o (was_traced target on at is rest found other e) none = absurd (none-some _ (sym none ∙ ap (λ x. x.answer.published) e))
 
 -- and it agrees as it is after one that did not
-pub still_agrees : (texts : List Module) (ms : List Instances) (s : ServerState) (cmd : Cmd) (o : Outcome) → Agrees ms s → apply_of texts s cmd ≡ Some o → o.answer.published ≡ None → Agrees ms o.state
+pub still_agrees : (texts : List Module) (ms : List ModuleInstances) (s : ServerState) (cmd : Cmd) (o : Outcome) → AgreesWithServer ms s → apply_of texts s cmd ≡ Some o → o.answer.published ≡ None → AgreesWithServer ms o.state
 still_agrees texts ms s cmd o a applied none = agrees_by ms s.versions o.state (unpublished_same texts s cmd o (came texts s cmd o applied) none) (within ms s a)
 
 -- ---- the loop over a load's list
 
 -- what is known of the next module of the list, and what becoming current leaves
-pub record PromotedNext (ms : List Instances) (t : ServerState) (refs : List ModRef) (i : ℕ) (name : ℕ) : Type 0 where
+pub record PromotedNext (ms : List ModuleInstances) (t : ServerState) (refs : List ModRef) (i : ℕ) (name : ℕ) : Type 0 where
   pub old : old_in ms name ≡ None
   pub current : IsSome (current_of t name)
   pub rest : CanPromote (with_promoted ms name (unwrap_or (current_of t name) 0)) t (drop (i + 1) refs)
   pub same : all_promoted (with_promoted ms name (unwrap_or (current_of t name) 0)) t (drop (i + 1) refs) ≡ all_promoted ms t (drop i refs)
 
-pub promoted_next : (ms : List Instances) (t : ServerState) (refs : List ModRef) (i : ℕ) (d : ModRef) → i < length refs → CanPromote ms t (drop i refs) → PromotedNext ms t refs i (get_or refs i d).name.0
+pub promoted_next : (ms : List ModuleInstances) (t : ServerState) (refs : List ModRef) (i : ℕ) (d : ModRef) → i < length refs → CanPromote ms t (drop i refs) → PromotedNext ms t refs i (get_or refs i d).name.0
 promoted_next ms t refs i d within can =
     let e = drop_more refs i d within in
     let c : CanPromote ms t (get_or refs i d ∷ drop (i + 1) refs) = subst (CanPromote ms t) e can in
     record { old = c.0; current = c.1; rest = c.2; same = ap (all_promoted ms t) (sym e) }
 
 -- the same, by the serial that the server gives
-pub promoted_rest : (ms after : List Instances) (t : ServerState) (refs : List ModRef) (i name serial : ℕ) → PromotedNext ms t refs i name → current_of t name ≡ Some serial → after ≡ with_promoted ms name serial
+pub promoted_rest : (ms after : List ModuleInstances) (t : ServerState) (refs : List ModRef) (i name serial : ℕ) → PromotedNext ms t refs i name → current_of t name ≡ Some serial → after ≡ with_promoted ms name serial
     → CanPromote after t (drop (i + 1) refs) × (all_promoted after t (drop (i + 1) refs) ≡ all_promoted ms t (drop i refs))
 promoted_rest ms after t refs i name serial next is put =
     let e : with_promoted ms name (unwrap_or (current_of t name) 0) ≡ after = ap (λ o. with_promoted ms name (unwrap_or o 0)) is ∙ sym put in
@@ -287,9 +287,9 @@ newest_last journal e =
 -- what the table owes to the newest entry, and what it is after it
 pub record NewestFollows (table : Modules) (t : ServerState) (journal : List Entry) : Type 0 where
   pub can : CanFollowNewest table t (newest_of journal)
-  pub agrees : Agrees (newest_followed table.instances t (newest_of journal)) t
+  pub agrees : AgreesWithServer (newest_followed table.instances t (newest_of journal)) t
 
-pub newest_follows : (texts : List Module) (table : Modules) (s t : ServerState) (answer : Applied) (cmd : Cmd) (journal longer : List Entry) (e : Entry) → Agrees table.instances s → apply_of texts s cmd ≡ Some (record { state = t; answer = answer })
+pub newest_follows : (texts : List Module) (table : Modules) (s t : ServerState) (answer : Applied) (cmd : Cmd) (journal longer : List Entry) (e : Entry) → AgreesWithServer table.instances s → apply_of texts s cmd ≡ Some (record { state = t; answer = answer })
     → new_modules cmd ≤ table.room → e.cmd ≡ cmd → e.published ≡ answer.published → longer ≡ journal ++ e ∷ [] → NewestFollows table t longer
 newest_follows texts table s t answer cmd journal longer e a applied room is told more = subst (NewestFollows table t) (sym more) (by (e.published) refl)
   where
@@ -299,14 +299,14 @@ newest_follows texts table s t answer cmd journal longer e a applied room is tol
     last : newest_of (journal ++ e ∷ []) ≡ Some e
     last = newest_last journal e
 
-    with_newest : CanFollowNewest table t (Some e) → Agrees (newest_followed table.instances t (Some e)) t → NewestFollows table t (journal ++ e ∷ [])
-    with_newest can agrees = record { can = subst (CanFollowNewest table t) (sym last) can; agrees = subst (λ n. Agrees (newest_followed table.instances t n) t) (sym last) agrees }
+    with_newest : CanFollowNewest table t (Some e) → AgreesWithServer (newest_followed table.instances t (Some e)) t → NewestFollows table t (journal ++ e ∷ [])
+    with_newest can agrees = record { can = subst (CanFollowNewest table t) (sym last) can; agrees = subst (λ n. AgreesWithServer (newest_followed table.instances t n) t) (sym last) agrees }
 
     by : (published : Option ℕ) → e.published ≡ published → NewestFollows table t (journal ++ e ∷ [])
     by None none =
         with_newest (λ some. absurd (false≢true (sym (ap is_some none) ∙ some)))
-        (subst (λ p. Agrees (if is_some p then followed table.instances t e.cmd else table.instances) t) (sym none) (still_agrees texts table.instances s cmd o a applied (sym told ∙ none)))
+        (subst (λ p. AgreesWithServer (if is_some p then followed table.instances t e.cmd else table.instances) t) (sym none) (still_agrees texts table.instances s cmd o a applied (sym told ∙ none)))
     by (Some k) some =
         let f = follows texts table.instances s cmd o a applied (ap is_some (sym told ∙ some)) in
         with_newest (λ there. (subst (CanFollow table.instances t) (sym is) f.can, subst (λ c. new_modules c ≤ table.room) (sym is) room))
-        (subst (λ p. Agrees (if is_some p then followed table.instances t e.cmd else table.instances) t) (sym some) (subst (λ c. Agrees (followed table.instances t c) t) (sym is) f.agrees))
+        (subst (λ p. AgreesWithServer (if is_some p then followed table.instances t e.cmd else table.instances) t) (sym some) (subst (λ c. AgreesWithServer (followed table.instances t c) t) (sym is) f.agrees))

@@ -9,7 +9,7 @@ use Rattle.run_log.specs.Legal.{commands_of}
 use Rattle.write_permit.specs.declared.holder.Holder.TheVariants.{Free}
 use Rattle.write_permit.specs.declared.loader_run.LoaderRun.{LoaderRun}
 use Rattle.write_permit.specs.declared.book.Book.{Book}
-use Rattle.write_permit.specs.Agreement.{Agrees}
+use Rattle.write_permit.specs.Agreement.{AgreesWithServer}
 use Rattle.write_permit.specs.Book.{HaveBegun, IsBook, IsLog, IsPermit}
 use Rattle.write_permit.specs.Permit.{done_of}
 
@@ -42,5 +42,5 @@ begun_permit s loaders sound begun = record { script = sound; log = begun_log s 
 pub begun_book : (b : Book) → IsScript b.script → HaveBegun b.script.loaders b.loaders.items → b.server ≡ empty_state → b.journal ≡ [] → b.holder ≡ Free → b.modules.instances ≡ [] → IsBook b
 begun_book b sound begun server journal holder instances = record {
   permit = subst IsPermit (λ i. record { script = b.script; server = sym server i; journal = sym journal i; loaders = b.loaders.items; holder = sym holder i }) (begun_permit b.script b.loaders.items sound begun);
-  agrees = subst (Agrees b.modules.instances) (sym server) (subst (λ ms. Agrees ms empty_state) (sym instances) (record { current = λ name. refl; old = λ name. refl }));
+  agrees = subst (AgreesWithServer b.modules.instances) (sym server) (subst (λ ms. AgreesWithServer ms empty_state) (sym instances) (record { current = λ name. refl; old = λ name. refl }));
 }

@@ -17,9 +17,9 @@ use Rattle.run_log.specs.declared.logs.Who.TheVariants.{Loader, Runtime}
 use Rattle.write_permit.specs.declared.book.Book.{Book}
 use Rattle.write_permit.specs.declared.spawned.Spawned.{Spawned}
 use Rattle.write_permit.specs.declared.loader_run.LoaderRun.{LoaderRun}
-use Rattle.write_permit.specs.Agreement.{Agrees}
+use Rattle.write_permit.specs.Agreement.{AgreesWithServer}
 use Rattle.write_permit.specs.Book.{IsBook, IsPermit, shown}
-use Rattle.write_permit.specs.Permit.{PermitState, Step, at_once_of, counted_in, done_by, done_of, is_spawn, joined, made_of, needs_permission, next_of, loader_after, opening, spawned_by}
+use Rattle.write_permit.specs.Permit.{PermitState, PermitStep, at_once_of, counted_in, done_by, done_of, is_spawn, joined, made_of, needs_permission, next_of, loader_after, command_opening, spawned_by}
 use Rattle.write_permit.proofs.Entered.{next_number}
 use Rattle.write_permit.proofs.Kept.{at_once_keeps, release_keeps, there}
 
@@ -33,18 +33,18 @@ pub record WasMade (p : PermitState) (who : Who) (cmd : Cmd) (q : PermitState) (
 pub was_made : (p : PermitState) (who : Who) (cmd : Cmd) (q : PermitState) (answer : Applied) → made_of p who cmd ≡ Some (record { state = q; answer = answer }) → WasMade p who cmd q answer
 was_made p who cmd q answer h = by (apply_of p.script.modules p.server cmd) refl h
   where
-    by : (o : Option Outcome) → apply_of p.script.modules p.server cmd ≡ o → option_map {U = Step} (λ x. record { state = joined p who cmd x; answer = x.answer }) o ≡ Some (record { state = q; answer = answer }) → WasMade p who cmd q answer
+    by : (o : Option Outcome) → apply_of p.script.modules p.server cmd ≡ o → option_map {U = PermitStep} (λ x. record { state = joined p who cmd x; answer = x.answer }) o ≡ Some (record { state = q; answer = answer }) → WasMade p who cmd q answer
     by None e g = absurd (none-some _ g)
     by (Some x) e g =
         let s : record { state = joined p who cmd x; answer = x.answer } ≡ record { state = q; answer = answer } = same_Some _ _ g in
-        record { outcome = x; applied = e; state = sym (ap (λ (t : Step). t.state) s); answer_is = ap (λ (t : Step). t.answer) s }
+        record { outcome = x; applied = e; state = sym (ap (λ (t : PermitStep). t.state) s); answer_is = ap (λ (t : PermitStep). t.answer) s }
 
 -- a book after a step that is known of what it shows
-pub book_by : (b : Book) (p : PermitState) → shown b ≡ p → IsPermit p → Agrees b.modules.instances b.server → IsBook b
+pub book_by : (b : Book) (p : PermitState) → shown b ≡ p → IsPermit p → AgreesWithServer b.modules.instances b.server → IsBook b
 book_by b p same permit agrees = record { permit = subst IsPermit (sym same) permit; agrees = agrees }
 
 -- a release keeps a book
-pub book_released : (b c : Book) (serial : ℕ) (answer : Applied) → IsBook b → made_of (shown b) Runtime (cmds.Release serial) ≡ Some (record { state = shown c; answer = answer }) → IsSound c.server → Agrees c.modules.instances c.server → IsBook c
+pub book_released : (b c : Book) (serial : ℕ) (answer : Applied) → IsBook b → made_of (shown b) Runtime (cmds.Release serial) ≡ Some (record { state = shown c; answer = answer }) → IsSound c.server → AgreesWithServer c.modules.instances c.server → IsBook c
 book_released b c serial answer known made sound agrees =
     let w = was_made (shown b) Runtime (cmds.Release serial) (shown c) answer made in
     book_by c (joined (shown b) Runtime (cmds.Release serial) w.outcome) w.state
@@ -53,13 +53,13 @@ book_released b c serial answer known made sound agrees =
 -- ---- a command that is made at once
 
 -- a text can say it
-pub at_once_text : (s : ServerState) (command : ScriptCmd) → needs_permission command ≡ false → IsOfText (opening s [] command)
+pub at_once_text : (s : ServerState) (command : ScriptCmd) → needs_permission command ≡ false → IsOfText (command_opening s [] command)
 at_once_text s (CheckOld name) free = tt
 at_once_text s (Spawn target args) free = tt
 at_once_text s command free = absurd (cc)
 
 -- and the command table has a case for it
-pub at_once_enabled : (texts : List Module) (s : ServerState) (command : ScriptCmd) → needs_permission command ≡ false → IsSome (apply_of texts s (opening s [] command))
+pub at_once_enabled : (texts : List Module) (s : ServerState) (command : ScriptCmd) → needs_permission command ≡ false → IsSome (apply_of texts s (command_opening s [] command))
 at_once_enabled texts s (CheckOld name) free = refl
 at_once_enabled texts s (Spawn target args) free = refl
 at_once_enabled texts s command free = absurd (cc)
@@ -77,18 +77,18 @@ count_same (Load refs) = refl
 count_same command = refl
 
 -- what was counted and made is what the call tells
-pub at_once_is : (p m q : PermitState) (who : ℕ) (command : ScriptCmd) (answer : Applied) → next_of p who ≡ Some command → made_of p (Loader who) (opening p.server [] command) ≡ Some (record { state = m; answer = answer })
+pub at_once_is : (p m q : PermitState) (who : ℕ) (command : ScriptCmd) (answer : Applied) → next_of p who ≡ Some command → made_of p (Loader who) (command_opening p.server [] command) ≡ Some (record { state = m; answer = answer })
     → q ≡ record m { loaders = counted_in p.loaders who command } → at_once_of p who ≡ Some (record { state = q; answer = answer })
 at_once_is p m q who command answer next made counted =
-    ap (option_and_then (λ x. done_by p who x (opening p.server [] x))) next
-    ∙ ap (option_map {U = Step} (λ s. record { state = record (s.state) { loaders = counted_in p.loaders who command }; answer = s.answer })) made
+    ap (option_and_then (λ x. done_by p who x (command_opening p.server [] x))) next
+    ∙ ap (option_map {U = PermitStep} (λ s. record { state = record (s.state) { loaders = counted_in p.loaders who command }; answer = s.answer })) made
     ∙ ap (λ x. Some (record { state = x; answer = answer })) (sym counted)
 
 -- and keeps the book
 pub book_at_once : (b c : Book) (m : PermitState) (who : ℕ) (command : ScriptCmd) (answer : Applied) → IsBook b → next_of (shown b) who ≡ Some command → needs_permission command ≡ false
-    → made_of (shown b) (Loader who) (opening (shown b).server [] command) ≡ Some (record { state = m; answer = answer }) → shown c ≡ record m { loaders = counted_in (shown b).loaders who command } → IsSound c.server → Agrees c.modules.instances c.server → IsBook c
+    → made_of (shown b) (Loader who) (command_opening (shown b).server [] command) ≡ Some (record { state = m; answer = answer }) → shown c ≡ record m { loaders = counted_in (shown b).loaders who command } → IsSound c.server → AgreesWithServer c.modules.instances c.server → IsBook c
 book_at_once b c m who command answer known next free made counted sound agrees =
-    let cmd = opening (shown b).server [] command in
+    let cmd = command_opening (shown b).server [] command in
     let w = was_made (shown b) (Loader who) cmd m answer made in
     let same : shown c ≡ record (joined (shown b) (Loader who) cmd w.outcome) { loaders = counted_in (shown b).loaders who command } = counted ∙ ap (λ (x : PermitState). record x { loaders = counted_in (shown b).loaders who command }) w.state in
     book_by c (record (joined (shown b) (Loader who) cmd w.outcome) { loaders = counted_in (shown b).loaders who command }) same

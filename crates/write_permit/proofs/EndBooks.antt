@@ -20,9 +20,9 @@ use Rattle.write_permit.specs.declared.commands.OldCode.{OldCode}
 use Rattle.write_permit.specs.declared.holder.Holder.{Holder}
 use Rattle.write_permit.specs.declared.holder.Holder.TheVariants.{Free, Held, Purging, Tracing}
 use Rattle.write_permit.specs.declared.loader_run.LoaderRun.{LoaderRun}
-use Rattle.write_permit.specs.Agreement.{Agrees}
+use Rattle.write_permit.specs.Agreement.{AgreesWithServer}
 use Rattle.write_permit.specs.Book.{EndsBy, HoldsJust, IsBook, IsHeld, PurgeWaits, TraceWaits, shown}
-use Rattle.write_permit.specs.Permit.{Advanced, PermitState, Step, advanced, begun, counted_in, done_by, doomed_by, ended_with, entered_by, entered_trace, freed, given_up, holder_of, is_spawn, joined, loader_after, made_of, next_of, opening, purged_code, settled}
+use Rattle.write_permit.specs.Permit.{Advanced, PermitState, PermitStep, advanced, command_begun, counted_in, done_by, doomed_by, command_ended, entered_by, entered_trace, freed, given_up, holder_of, is_spawn, joined, loader_after, made_of, next_of, command_opening, purged_code, settled}
 use Rattle.write_permit.proofs.BookKeeps.{book_by, count_same, was_made}
 use Rattle.write_permit.proofs.Ends.{CanEnd, can_end, code_of_module, counted_after, doom_keeps, end_keeps, ends_own, given_permit, settled_keeps, trace_keeps, waiting_code}
 use Rattle.write_permit.proofs.Entered.{entered_is}
@@ -36,15 +36,15 @@ told q a = Some (record { state = q; answer = a })
 
 -- what was made and counted is what the call tells
 pub ended_is : (p m q : PermitState) (who : ℕ) (command : ScriptCmd) (cmd : Cmd) (answer : Applied) → next_of p who ≡ Some command → made_of p (Loader who) cmd ≡ Some (record { state = m; answer = answer })
-    → q ≡ record m { loaders = counted_in p.loaders who command; holder = Free } → ended_with p who cmd ≡ Some (record { state = q; answer = Done answer })
+    → q ≡ record m { loaders = counted_in p.loaders who command; holder = Free } → command_ended p who cmd ≡ Some (record { state = q; answer = Done answer })
 ended_is p m q who command cmd answer next made same =
     ap (option_and_then {U = Advanced} (λ x. option_map {U = Advanced} freed (done_by p who x cmd))) next
-    ∙ ap (λ o. option_map {U = Advanced} freed (option_map {U = Step} (λ s. record { state = record (s.state) { loaders = counted_in p.loaders who command }; answer = s.answer }) o)) made
+    ∙ ap (λ o. option_map {U = Advanced} freed (option_map {U = PermitStep} (λ s. record { state = record (s.state) { loaders = counted_in p.loaders who command }; answer = s.answer }) o)) made
     ∙ ap (λ (x : PermitState). told (x) (Done answer)) (sym same)
 
 -- what the last command of a loader's command leaves
 pub record EndMade (b c : Book) (who : ℕ) (cmd : Cmd) (answer : Applied) : Type 0 where
-  pub ok : ended_with (shown b) who cmd ≡ Some (record { state = shown c; answer = Done answer })
+  pub ok : command_ended (shown b) who cmd ≡ Some (record { state = shown c; answer = Done answer })
   pub book : IsBook c
 
 module _ (b : Book) (known : IsBook b) (who : ℕ) (cmd : Cmd) (ends : IsSomeAnd (next_of (shown b) who) (λ command. EndsBy (shown b) b.holder command cmd)) where
@@ -57,7 +57,7 @@ module _ (b : Book) (known : IsBook b) (who : ℕ) (cmd : Cmd) (ends : IsSomeAnd
 
   pub end_made : (m c : Book) (answer : Applied) (after : LoaderRun) → holder_of b.holder ≡ Some who → IsSomeAnd (next_of (shown b) who) (λ command. option_map (loader_after command) (slice_get b.loaders.items who) ≡ Some after)
       → made_of (shown b) (Loader who) cmd ≡ Some (record { state = shown m; answer = answer }) → shown c ≡ record (shown m) { loaders = slice_set m.loaders.items who after; holder = Free } → c.modules.instances ≡ m.modules.instances
-      → IsSound m.server → Agrees m.modules.instances m.server → EndMade b c who cmd answer
+      → IsSound m.server → AgreesWithServer m.modules.instances m.server → EndMade b c who cmd answer
   end_made m c answer after own counts made same table sound agrees =
       let d = some_and (next_of (shown b) who) (λ command. EndsBy (shown b) b.holder command cmd) ends in
       let w = was_made (shown b) (Loader who) cmd (shown m) answer made in
@@ -71,7 +71,7 @@ module _ (b : Book) (known : IsBook b) (who : ℕ) (cmd : Cmd) (ends : IsSomeAnd
         ok = ended_is (shown b) (shown m) (shown c) who d.0 cmd answer d.1.0 made is;
         book = book_by c (record (joined (shown b) (Loader who) cmd w.outcome) { loaders = counted_in b.loaders.items who d.0; holder = Free }) left
             (end_keeps (shown b) known.permit who d.0 d.1.0 cmd w.outcome w.applied (ends_own (shown b) b.holder who d.0 cmd w.outcome known.permit.holds own d.1.0 d.1.1 w.applied) (subst IsSound (sym server ∙ ap (λ (x : PermitState). x.server) left) sound))
-            (subst (λ s. Agrees c.modules.instances s) (sym server) (subst (λ ms. Agrees ms m.server) (sym table) agrees));
+            (subst (λ s. AgreesWithServer c.modules.instances s) (sym server) (subst (λ ms. AgreesWithServer ms m.server) (sym table) agrees));
       }
 
 -- ---- a purge of old code
@@ -86,16 +86,16 @@ module _ (b : Book) (known : IsBook b) (who : ℕ) (code : OldCode) (held : b.ho
   held_rest = let k : IsHeld (shown b) who = subst (HoldsJust (shown b)) held known.permit.holds in k.rest
 
   pub doom_left : (m c : Book) (answer : Applied) → made_of (shown b) (Loader who) (cmds.Doom code.«module») ≡ Some (record { state = shown m; answer = answer }) → shown c ≡ record (shown m) { holder = Purging who code.«module» } → c.modules.instances ≡ m.modules.instances
-      → IsSound m.server → Agrees m.modules.instances m.server → DoomMade b c who code
+      → IsSound m.server → AgreesWithServer m.modules.instances m.server → DoomMade b c who code
   doom_left m c answer made same table sound agrees =
       let w = was_made (shown b) (Loader who) (cmds.Doom code.«module») (shown m) answer made in
       let left : shown c ≡ record (joined (shown b) (Loader who) (cmds.Doom code.«module») w.outcome) { holder = Purging who code.«module» } = same ∙ ap (λ (x : PermitState). record x { holder = Purging who code.«module» }) w.state in
       let server : c.server ≡ m.server = ap (λ (x : PermitState). x.server) same in
       record {
-        ok = ap (option_map {U = PermitState} (λ (s : Step). record (s.state) { holder = Purging who code.«module» })) made ∙ ap (λ (x : PermitState). Some x) (sym same);
+        ok = ap (option_map {U = PermitState} (λ (s : PermitStep). record (s.state) { holder = Purging who code.«module» })) made ∙ ap (λ (x : PermitState). Some x) (sym same);
         book = book_by c (record (joined (shown b) (Loader who) (cmds.Doom code.«module») w.outcome) { holder = Purging who code.«module» }) left
             (doom_keeps (shown b) known.permit who code.«module» code.serial w.outcome held next old w.applied (subst IsSound (sym server ∙ ap (λ (x : PermitState). x.server) left) sound))
-            (subst (λ s. Agrees c.modules.instances s) (sym server) (subst (λ ms. Agrees ms m.server) (sym table) agrees));
+            (subst (λ s. AgreesWithServer c.modules.instances s) (sym server) (subst (λ ms. AgreesWithServer ms m.server) (sym table) agrees));
       }
 
 -- ---- a trace that goes by phases
@@ -111,17 +111,17 @@ tracing_in p who published = option_map {U = PermitState} (λ generation. record
 
 module _ (b : Book) (known : IsBook b) (who generation : ℕ) (target : Mfa) (on : Bool) (held : b.holder ≡ Held who) (next : next_of (shown b) who ≡ Some (Trace target on)) where
   pub trace_left : (m c : Book) (answer : Applied) → answer ≡ record { reply = replies.True; published = Some generation } → made_of (shown b) (Loader who) (cmds.Trace target on) ≡ Some (record { state = shown m; answer = answer })
-      → shown c ≡ record (shown m) { holder = Tracing who generation } → c.modules.instances ≡ m.modules.instances → IsSound m.server → Agrees m.modules.instances m.server → TraceMade b c who target on
+      → shown c ≡ record (shown m) { holder = Tracing who generation } → c.modules.instances ≡ m.modules.instances → IsSound m.server → AgreesWithServer m.modules.instances m.server → TraceMade b c who target on
   trace_left m c answer answer_is made same table sound agrees =
       let cmd = cmds.Trace target on in
       let w = was_made (shown b) (Loader who) cmd (shown m) answer made in
       let left : shown c ≡ record (joined (shown b) (Loader who) cmd w.outcome) { holder = Tracing who generation } = same ∙ ap (λ (x : PermitState). record x { holder = Tracing who generation }) w.state in
       let server : c.server ≡ m.server = ap (λ (x : PermitState). x.server) same in
       record {
-        ok = ap (option_and_then {U = PermitState} (λ (s : Step). tracing_in s.state who s.answer.published)) made ∙ ap (λ (a : Applied). tracing_in (shown m) who a.published) answer_is ∙ ap (λ (x : PermitState). Some x) (sym same);
+        ok = ap (option_and_then {U = PermitState} (λ (s : PermitStep). tracing_in s.state who s.answer.published)) made ∙ ap (λ (a : Applied). tracing_in (shown m) who a.published) answer_is ∙ ap (λ (x : PermitState). Some x) (sym same);
         book = book_by c (record (joined (shown b) (Loader who) cmd w.outcome) { holder = Tracing who generation }) left
             (trace_keeps (shown b) known.permit who generation target on w.outcome held next w.applied (w.answer_is ∙ answer_is) (subst IsSound (sym server ∙ ap (λ (x : PermitState). x.server) left) sound))
-            (subst (λ s. Agrees c.modules.instances s) (sym server) (subst (λ ms. Agrees ms m.server) (sym table) agrees));
+            (subst (λ s. AgreesWithServer c.modules.instances s) (sym server) (subst (λ ms. AgreesWithServer ms m.server) (sym table) agrees));
       }
 
 -- what the end of a trace leaves
@@ -149,7 +149,7 @@ module _ (b : Book) (known : IsBook b) (who generation : ℕ) (held : b.holder �
         ok = ap (advanced (shown b) [] who) held ∙ ap (λ (x : PermitState). told x (Done (record { reply = replies.True; published = Some generation }))) (sym left);
         state = left;
         book = book_by c (settled (shown b) who generation).state left (settled_keeps (shown b) known.permit who generation held)
-            (subst (λ s. Agrees c.modules.instances s) (sym (ap (λ (x : PermitState). x.server) same)) (subst (λ ms. Agrees ms b.server) (sym table) known.agrees));
+            (subst (λ s. AgreesWithServer c.modules.instances s) (sym (ap (λ (x : PermitState). x.server) same)) (subst (λ ms. AgreesWithServer ms b.server) (sym table) known.agrees));
       }
 
 -- ---- the loader that is counted
@@ -170,14 +170,14 @@ next_counted b who command l after spawns next found told is =
 -- ---- what a loader is told
 
 -- a command is made at once
-pub open_ok : (p : PermitState) (among : List Linger) (who : ℕ) (command : ScriptCmd) (cmd : Cmd) (r : Option Advanced) → next_of p who ≡ Some command → purged_code p.server command ≡ None → cmd ≡ opening p.server among command → ended_with p who cmd ≡ r
-    → option_and_then (λ x. begun p among who x (purged_code p.server x)) (next_of p who) ≡ r
+pub open_ok : (p : PermitState) (among : List Linger) (who : ℕ) (command : ScriptCmd) (cmd : Cmd) (r : Option Advanced) → next_of p who ≡ Some command → purged_code p.server command ≡ None → cmd ≡ command_opening p.server among command → command_ended p who cmd ≡ r
+    → option_and_then (λ x. command_begun p among who x (purged_code p.server x)) (next_of p who) ≡ r
 open_ok p among who command cmd r next code is h =
-    ap (option_and_then {U = Advanced} (λ x. begun p among who x (purged_code p.server x))) next ∙ ap (begun p among who command) code ∙ ap (ended_with p who) (sym is) ∙ h
+    ap (option_and_then {U = Advanced} (λ x. command_begun p among who x (purged_code p.server x))) next ∙ ap (command_begun p among who command) code ∙ ap (command_ended p who) (sym is) ∙ h
 
 -- ---- with what a command ends
 
-pub open_ends : (b : Book) (who : ℕ) (command : ScriptCmd) (among : List Linger) (cmd : Cmd) → b.holder ≡ Held who → next_of (shown b) who ≡ Some command → purged_code b.server command ≡ None → cmd ≡ opening b.server among command
+pub open_ends : (b : Book) (who : ℕ) (command : ScriptCmd) (among : List Linger) (cmd : Cmd) → b.holder ≡ Held who → next_of (shown b) who ≡ Some command → purged_code b.server command ≡ None → cmd ≡ command_opening b.server among command
     → IsSomeAnd (next_of (shown b) who) (λ x. EndsBy (shown b) b.holder x cmd)
 open_ends b who command among cmd held next code is =
     some_at (next_of (shown b) who) (λ x. EndsBy (shown b) b.holder x cmd) command next (subst (λ h. EndsBy (shown b) h command cmd) (sym held) (code, (among, is)))
@@ -208,4 +208,4 @@ second_code b n name known is = waiting_code (shown b) n name (subst (HoldsJust 
 pub book_given : (m c : Book) (h : Holder) → IsBook m → h ≡ given_up m.holder → shown c ≡ record (shown m) { holder = h } → c.modules.instances ≡ m.modules.instances → IsBook c
 book_given m c h known is left table =
     book_by c (record (shown m) { holder = given_up m.holder }) (left ∙ ap (λ x. record (shown m) { holder = x }) is) (given_permit (shown m) m.holder known.permit refl)
-    (subst (λ s. Agrees c.modules.instances s) (sym (ap (λ (x : PermitState). x.server) left)) (subst (λ ms. Agrees ms m.server) (sym table) known.agrees))
+    (subst (λ s. AgreesWithServer c.modules.instances s) (sym (ap (λ (x : PermitState). x.server) left)) (subst (λ ms. AgreesWithServer ms m.server) (sym table) known.agrees))

@@ -31,7 +31,7 @@ use Rattle.write_permit.specs.declared.holder.Holder.{Holder}
 use Rattle.write_permit.specs.declared.holder.Holder.TheVariants.{Free, Held, Purging, Tracing}
 use Rattle.write_permit.specs.declared.loader_run.LoaderRun.{LoaderRun}
 use Rattle.write_permit.specs.Book.{EndsBy, HoldsJust, IsHeld, IsLog, IsPermit, PurgeWaits, TraceWaits}
-use Rattle.write_permit.specs.Permit.{PermitState, counted_in, entered_by, given_up, half_of, holder_of, joined, lingering, loader_after, next_of, opening, purged_code, settled}
+use Rattle.write_permit.specs.Permit.{PermitState, counted_in, entered_by, given_up, half_of, holder_of, joined, lingering, loader_after, next_of, command_opening, purged_code, settled}
 use Rattle.write_permit.proofs.Dooms.{at_rest, doom_dooms, idle_purge_enabled, load_enabled, purge_enabled, purge_lifts, rest_kept}
 use Rattle.write_permit.proofs.Entered.{entered_is}
 use Rattle.write_permit.proofs.Kept.{there}
@@ -55,9 +55,9 @@ no_code name (Some serial) h = absurd (none-some _ (sym h))
 
 module _ (p : PermitState) (by who : ℕ) (among : List Linger) (o : Outcome) (none : p.server.doomed ≡ []) where
   -- a command that is made at once ends itself
-  opened : (command : ScriptCmd) → purged_code p.server command ≡ None → apply_of p.script.modules p.server (opening p.server among command) ≡ Some o → EndsOwn p (Held by) who command (opening p.server among command) o
+  opened : (command : ScriptCmd) → purged_code p.server command ≡ None → apply_of p.script.modules p.server (command_opening p.server among command) ≡ Some o → EndsOwn p (Held by) who command (command_opening p.server among command) o
   opened (Purge name) code applied = record { ended = refl; loads = refl; stands = no_code name (old_of p.server name.0) code; half = refl; entered = refl; rest = rest_kept p.script.modules p.server (cmds.Purge name false) o none tt applied }
-  opened command code applied = record { ended = refl; loads = refl; stands = tt; half = refl; entered = refl; rest = rest_kept p.script.modules p.server (opening p.server among command) o none tt applied }
+  opened command code applied = record { ended = refl; loads = refl; stands = tt; half = refl; entered = refl; rest = rest_kept p.script.modules p.server (command_opening p.server among command) o none tt applied }
 
 -- the second half of a purge ends the purge
 closed_ends : (p : PermitState) (by who : ℕ) (name : AtomId) (killed : Bool) (o : Outcome) → PurgeWaits p by name → by ≡ who → apply_of p.script.modules p.server (cmds.Purge name killed) ≡ Some o
@@ -214,7 +214,7 @@ soft_purge_some s name (l ∷ ls) None (Some linger) h = absurd (none-some linge
 soft_purge_some s name among (Some serial) None h = refl
 soft_purge_some s name among (Some serial) (Some linger) h = refl
 
-opening_some : (names : List (List ℕ)) (texts : List Module) (s : ServerState) (among : List Linger) (command : ScriptCmd) → s.doomed ≡ [] → purged_code s command ≡ None → IsCmdOf names texts command → IsSome (apply_of texts s (opening s among command))
+opening_some : (names : List (List ℕ)) (texts : List Module) (s : ServerState) (among : List Linger) (command : ScriptCmd) → s.doomed ≡ [] → purged_code s command ≡ None → IsCmdOf names texts command → IsSome (apply_of texts s (command_opening s among command))
 opening_some names texts s among (Load refs) none code fits = load_enabled texts s refs none fits.given
 opening_some names texts s among (Delete name) none code fits = at_rest s (Some (delete_of s name.0)) none refl
 opening_some names texts s among (SoftPurge name) none code fits =
@@ -232,7 +232,7 @@ next_fits P [] k place command all h = absurd (none-some command h)
 next_fits P (commands ∷ loaders) zero place command all h = all_at P commands place command all.0 h
 next_fits P (commands ∷ loaders) (suc k) place command all h = next_fits P loaders k place command all.1 h
 
-opening_of_text : (names : List (List ℕ)) (texts : List Module) (s : ServerState) (among : List Linger) (command : ScriptCmd) → length names ≤ MOST_NAMES → IsCmdOf names texts command → IsOfText (opening s among command)
+opening_of_text : (names : List (List ℕ)) (texts : List Module) (s : ServerState) (among : List Linger) (command : ScriptCmd) → length names ≤ MOST_NAMES → IsCmdOf names texts command → IsOfText (command_opening s among command)
 opening_of_text names texts s among (Put key term) room fits = short_term names (plain term) room fits.is_term
 opening_of_text names texts s among command room fits = tt
 

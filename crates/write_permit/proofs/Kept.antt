@@ -22,7 +22,7 @@ use Rattle.write_permit.specs.declared.holder.Holder.{Holder}
 use Rattle.write_permit.specs.declared.holder.Holder.TheVariants.{Free, Held, Purging, Tracing}
 use Rattle.write_permit.specs.declared.loader_run.LoaderRun.{LoaderRun}
 use Rattle.write_permit.specs.Book.{HoldsJust, IsLog, IsPermit}
-use Rattle.write_permit.specs.Permit.{PermitState, counted_in, done_of, entered_by, half_of, holder_of, joined, loader_after, needs_permission, next_of, opening}
+use Rattle.write_permit.specs.Permit.{PermitState, counted_in, done_of, entered_by, half_of, holder_of, joined, loader_after, needs_permission, next_of, command_opening}
 use Rattle.write_permit.proofs.Entered.{entered_counted, entered_done, entered_other, many_loaders}
 use Rattle.write_permit.proofs.Logs.{counted_is, done_other, entry_of, log_counted, log_joined, purges_joined}
 
@@ -96,7 +96,7 @@ quick_spawn p who target args o applied = record {
 }
 
 -- a command that needs no permission is one of these two
-quick : (p : PermitState) (who : ℕ) (command : ScriptCmd) (o : Outcome) → needs_permission command ≡ false → apply_of p.script.modules p.server (opening p.server [] command) ≡ Some o → IsQuick p who command (opening p.server [] command) o
+quick : (p : PermitState) (who : ℕ) (command : ScriptCmd) (o : Outcome) → needs_permission command ≡ false → apply_of p.script.modules p.server (command_opening p.server [] command) ≡ Some o → IsQuick p who command (command_opening p.server [] command) o
 quick p who (CheckOld name) o free applied = quick_check p who name o applied
 quick p who (Spawn target args) o free applied = quick_spawn p who target args o applied
 quick p who command o free applied = absurd (false≢true (sym free))
@@ -121,10 +121,10 @@ module _ (p : PermitState) (known : IsPermit p) (who : ℕ) (command : ScriptCmd
       ∙ ap (slice_get (commands_of p.script by)) (ap (λ ls. done_of ls by) (counted_is p.loaders who command there.0 there.1) ∙ done_other p.loaders who command there.0 there.1 by n)
 
   -- a command that is made at once keeps what a permit shows
-  pub at_once_keeps : (o : Outcome) → needs_permission command ≡ false → apply_of p.script.modules p.server (opening p.server [] command) ≡ Some o → IsSound o.state → IsPermit (with_counted (joined p (Loader who) (opening p.server [] command) o))
+  pub at_once_keeps : (o : Outcome) → needs_permission command ≡ false → apply_of p.script.modules p.server (command_opening p.server [] command) ≡ Some o → IsSound o.state → IsPermit (with_counted (joined p (Loader who) (command_opening p.server [] command) o))
   at_once_keeps o free applied sound =
       let q = quick p who command o free applied in
-      let cmd = opening p.server [] command in
+      let cmd = command_opening p.server [] command in
       let apart = holder_apart p p.holder who command known.holds next free in
       let logged : List LoaderRun = entered_by p.holder p.loaders in
       let found : slice_get logged who ≡ Some there.0 = entered_other p.holder p.loaders who apart ∙ there.1 in

@@ -15,7 +15,7 @@ use Rattle.write_permit.specs.declared.book.Book.{Book}
 use Rattle.write_permit.specs.declared.holder.Holder.{Holder}
 use Rattle.write_permit.specs.declared.holder.Holder.TheVariants.{Free, Held, Tracing}
 use Rattle.write_permit.specs.Book.{HoldsJust, IsBook, IsHeld, IsPermit, shown}
-use Rattle.write_permit.specs.Permit.{PermitState, Step, advanced, entered_by, entered_trace, joined, made_of, next_of, settled}
+use Rattle.write_permit.specs.Permit.{PermitState, PermitStep, advanced, entered_by, entered_trace, joined, made_of, next_of, settled}
 use Rattle.write_permit.proofs.Dooms.{none_doomed}
 use Rattle.write_permit.proofs.EndBooks.{ended_is, open_ok, told, tracing_in}
 use Rattle.write_permit.proofs.Entered.{entered_is}
@@ -52,7 +52,7 @@ was_entered p c who target on h = by (apply_of p.script.modules p.server (cmds.T
     told_by o e (Some generation) d g = record { outcome = o; generation = generation; applied = e; published = d; state = sym (same_Some _ c g) }
 
     by : (o : Option Outcome) → apply_of p.script.modules p.server (cmds.Trace target on) ≡ o
-        → option_and_then {U = PermitState} (λ (s : Step). tracing_in s.state who s.answer.published) (option_map {U = Step} (λ x. record { state = joined p (Loader who) (cmds.Trace target on) x; answer = x.answer }) o) ≡ Some c
+        → option_and_then {U = PermitState} (λ (s : PermitStep). tracing_in s.state who s.answer.published) (option_map {U = PermitStep} (λ x. record { state = joined p (Loader who) (cmds.Trace target on) x; answer = x.answer }) o) ≡ Some c
         → WasEntered p c who target on
     by None e g = absurd (none-some c g)
     by (Some o) e g = told_by o e o.answer.published refl g
@@ -86,7 +86,7 @@ module _ (p : PermitState) (known : IsPermit p) (who generation : ℕ) (target :
       let answer = answer_is w.outcome w.applied (w.published ∙ ap Some same) in
       let left : (settled c who generation).state ≡ record m { loaders = entered_by (Tracing who generation) p.loaders; holder = Free } = ap (λ (x : PermitState). (settled x who generation).state) w.state in
       let counted = left ∙ ap (λ ls. record m { loaders = ls; holder = Free }) (entered_is who generation target on p.loaders) in
-      let made : made_of p (Loader who) cmd ≡ Some (record { state = m; answer = w.outcome.answer }) = ap (option_map {U = Step} (λ x. record { state = joined p (Loader who) cmd x; answer = x.answer })) w.applied in
+      let made : made_of p (Loader who) cmd ≡ Some (record { state = m; answer = w.outcome.answer }) = ap (option_map {U = PermitStep} (λ x. record { state = joined p (Loader who) cmd x; answer = x.answer })) w.applied in
       let ended = ended_is p m (settled c who generation).state who (Trace target on) cmd w.outcome.answer next made counted in
       ap (advanced p [] who) held ∙ open_ok p [] who (Trace target on) cmd _ next refl refl (ended ∙ ap (λ (a : Applied). told (settled c who generation).state (Done a)) answer)
 

@@ -23,8 +23,8 @@ use Rattle.write_permit.specs.declared.holder.Holder.{Holder}
 use Rattle.write_permit.specs.declared.holder.Holder.TheVariants.{Free, Held, Purging, Tracing}
 use Rattle.write_permit.specs.declared.loader_run.LoaderRun.{LoaderRun}
 use Rattle.server_core.specs.declared.command.Linger.{Linger}
-use Rattle.write_permit.specs.Agreement.{Agrees}
-use Rattle.write_permit.specs.Permit.{PermitState, done_of, entered_by, half_of, needs_permission, next_of, opening, purged_code}
+use Rattle.write_permit.specs.Agreement.{AgreesWithServer}
+use Rattle.write_permit.specs.Permit.{PermitState, done_of, entered_by, half_of, needs_permission, next_of, command_opening, purged_code}
 
 -- what a permit shows of what it keeps
 abbrev pub shown : Book → PermitState
@@ -74,7 +74,7 @@ HoldsJust p (Tracing by generation) = TraceWaits p by generation
 -- purge comes to its end
 abbrev pub EndsBy : PermitState → Holder → ScriptCmd → Cmd → Type 0
 EndsBy p Free command cmd = ⊥
-EndsBy p (Held by) command cmd = (purged_code p.server command ≡ None) × ((among : List Linger) × (cmd ≡ opening p.server among command))
+EndsBy p (Held by) command cmd = (purged_code p.server command ≡ None) × ((among : List Linger) × (cmd ≡ command_opening p.server among command))
 EndsBy p (Purging by name) command cmd = (killed : Bool) × (cmd ≡ cmds.Purge name killed)
 EndsBy p (Tracing by generation) command cmd = ⊥
 
@@ -93,4 +93,4 @@ pub record IsPermit (p : PermitState) : Type 0 where
 -- what every permit keeps
 pub record IsBook (b : Book) : Type 0 where
   pub permit : IsPermit (shown b)
-  pub agrees : Agrees b.modules.instances b.server
+  pub agrees : AgreesWithServer b.modules.instances b.server

@@ -101,7 +101,7 @@ given_up (Purging by name) = Purging by name
 given_up (Tracing by generation) = Tracing by generation
 
 -- a permit after a call, with what the server answered
-pub record Step : Type 0 where
+pub record PermitStep : Type 0 where
   pub state : PermitState
   pub answer : Applied
 
@@ -110,7 +110,7 @@ abbrev pub joined : PermitState → Who → Cmd → Outcome → PermitState
 joined p who cmd o = record p { server = o.state; journal = p.journal ++ (record { who = who; cmd = cmd; reply = o.answer.reply; published = o.answer.published }) ∷ [] }
 
 -- a command of the server is made, by the command table
-abbrev pub made_of : PermitState → Who → Cmd → Option Step
+abbrev pub made_of : PermitState → Who → Cmd → Option PermitStep
 made_of p who cmd = option_map (λ o. record { state = joined p who cmd o; answer = o.answer }) (apply_of p.script.modules p.server cmd)
 
 -- a loader after one of its commands
@@ -122,7 +122,7 @@ abbrev pub counted_in : List LoaderRun → ℕ → ScriptCmd → List LoaderRun
 counted_in loaders who command = unwrap_or (option_map (λ l. slice_set loaders who (loader_after command l)) (slice_get loaders who)) loaders
 
 -- a command of the script is done by this last command of the server
-abbrev pub done_by : PermitState → ℕ → ScriptCmd → Cmd → Option Step
+abbrev pub done_by : PermitState → ℕ → ScriptCmd → Cmd → Option PermitStep
 done_by p who command cmd = option_map (λ s. record { state = record (s.state) { loaders = counted_in p.loaders who command }; answer = s.answer }) (made_of p (Loader who) cmd)
 
 -- the process of which a soft purge tells: the first of those that linger in the old code, if there is such code
@@ -132,22 +132,22 @@ lingering (l ∷ ls) None = None
 lingering (l ∷ ls) (Some serial) = Some l
 
 -- the command of the server with which a command of the script is made that is made at once, as these processes linger; a purge is, where there is no old code
-abbrev pub opening : ServerState → List Linger → ScriptCmd → Cmd
-opening s among (Load refs) = cmds.Load refs
-opening s among (Delete name) = cmds.Delete name
-opening s among (SoftPurge name) = cmds.SoftPurge name (lingering among (old_of s name.0))
-opening s among (Purge name) = cmds.Purge name false
-opening s among (CheckOld name) = cmds.CheckOld name
-opening s among (Put key term) = cmds.Put key term
-opening s among (Erase key) = cmds.Erase key
-opening s among (Trace target on) = cmds.Trace target on
-opening s among (Spawn target args) = cmds.Spawn target args
+abbrev pub command_opening : ServerState → List Linger → ScriptCmd → Cmd
+command_opening s among (Load refs) = cmds.Load refs
+command_opening s among (Delete name) = cmds.Delete name
+command_opening s among (SoftPurge name) = cmds.SoftPurge name (lingering among (old_of s name.0))
+command_opening s among (Purge name) = cmds.Purge name false
+command_opening s among (CheckOld name) = cmds.CheckOld name
+command_opening s among (Put key term) = cmds.Put key term
+command_opening s among (Erase key) = cmds.Erase key
+command_opening s among (Trace target on) = cmds.Trace target on
+command_opening s among (Spawn target args) = cmds.Spawn target args
 
 -- ---- commands that need no permission
 
 -- a loader's next command is made at once
-abbrev pub at_once_of : PermitState → ℕ → Option Step
-at_once_of p who = option_and_then (λ command. done_by p who command (opening p.server [] command)) (next_of p who)
+abbrev pub at_once_of : PermitState → ℕ → Option PermitStep
+at_once_of p who = option_and_then (λ command. done_by p who command (command_opening p.server [] command)) (next_of p who)
 
 -- the process that a loader's next command makes, if it makes one: its number is that of the spawn line
 abbrev pub spawned_by : PermitState → ℕ → Option ScriptCmd → Option Spawned
@@ -162,12 +162,12 @@ pub record Advanced : Type 0 where
   pub answer : OpStep
 
 -- a loader's command is done: the permission is free
-abbrev pub freed : Step → Advanced
+abbrev pub freed : PermitStep → Advanced
 freed s = record { state = record (s.state) { holder = Free }; answer = Done s.answer }
 
 -- a loader's next command is done by this last command of the server
-abbrev pub ended_with : PermitState → ℕ → Cmd → Option Advanced
-ended_with p who cmd = option_and_then (λ command. option_map freed (done_by p who command cmd)) (next_of p who)
+abbrev pub command_ended : PermitState → ℕ → Cmd → Option Advanced
+command_ended p who cmd = option_and_then (λ command. option_map freed (done_by p who command cmd)) (next_of p who)
 
 -- the old code that a command purges in two halves: that of a purge, where there is some
 abbrev pub purged_code : ServerState → ScriptCmd → Option OldCode
@@ -189,14 +189,14 @@ settled p by generation =
     record { state = record p { loaders = entered_by (Tracing by generation) p.loaders; holder = Free }; answer = Done (record { reply = replies.True; published = Some generation }) }
 
 -- a command is done that purges no old code
-abbrev pub begun : PermitState → List Linger → ℕ → ScriptCmd → Option OldCode → Option Advanced
-begun p among who command None = ended_with p who (opening p.server among command)
-begun p among who command (Some code) = None
+abbrev pub command_begun : PermitState → List Linger → ℕ → ScriptCmd → Option OldCode → Option Advanced
+command_begun p among who command None = command_ended p who (command_opening p.server among command)
+command_begun p among who command (Some code) = None
 
 -- the loader that has the permission goes on with its next command to its end, where that purges no old code
 abbrev pub advanced : PermitState → List Linger → ℕ → Holder → Option Advanced
 advanced p among who Free = None
-advanced p among who (Held by) = option_and_then (λ command. begun p among who command (purged_code p.server command)) (next_of p who)
+advanced p among who (Held by) = option_and_then (λ command. command_begun p among who command (purged_code p.server command)) (next_of p who)
 advanced p among who (Purging by name) = None
 advanced p among who (Tracing by generation) = Some (settled p by generation)
 

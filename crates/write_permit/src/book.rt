@@ -1,9 +1,9 @@
 ghost use Rattle.std.specs.Prelude.{◌≡◌, [], IfOk, IsSome, OnErr, Some};
 ghost use Rattle.server_core.specs.CommandTable.{AreTexts, IsOfText, apply_of};
-ghost use Rattle.server_core.specs.Decided.{Fits, made};
+ghost use Rattle.server_core.specs.Decided.{Fits, change_made};
 ghost use Rattle.server_core.specs.ServerState.{IsSound, empty_state};
 ghost use Rattle.script_core.specs.Sound.{IsScript};
-ghost use Rattle.write_permit.specs.Agreement.{Agrees, CanFollowNewest, newest_followed, newest_of};
+ghost use Rattle.write_permit.specs.Agreement.{AgreesWithServer, CanFollowNewest, newest_followed, newest_of};
 ghost use Rattle.write_permit.specs.Book.{HaveBegun, IsBook, shown};
 ghost use Rattle.write_permit.specs.Permit.{made_of};
 
@@ -78,11 +78,11 @@ pub fn make(book: &mut Book, who: Who, cmd: Cmd) -> Result<Applied, NoMemory>
     requires texts { AreTexts book.old.script.modules }
     requires put { IsOfText cmd }
     requires enabled { IsSome (apply_of book.old.script.modules book.old.server cmd) }
-    requires agrees { Agrees book.old.modules.instances book.old.server }
+    requires agrees { AgreesWithServer book.old.modules.instances book.old.server }
     requires sound { IsSound book.old.server }
     ensures ok { IfOk result (λ applied. made_of (shown book.old) who cmd ≡ Some (record { state = shown book.new; answer = applied })) }
     ensures err { OnErr result (shown book.new ≡ shown book.old) }
-    ensures agrees { Agrees book.new.modules.instances book.new.server }
+    ensures agrees { AgreesWithServer book.new.modules.instances book.new.server }
     ensures sound { IsSound book.new.server }
 {
     let change = decided(&book.server, &cmd, &book.script.modules)?;
@@ -104,7 +104,7 @@ pub fn decided(server: &Server, cmd: &Cmd, texts: &ModuleList) -> Result<Change,
     requires texts { AreTexts texts.now }
     requires put { IsOfText cmd.now }
     requires enabled { IsSome (apply_of texts.now server.now cmd.now) }
-    ensures ok { IfOk result (λ change. apply_of texts.now server.now cmd.now ≡ Some (made server.now change)) }
+    ensures ok { IfOk result (λ change. apply_of texts.now server.now cmd.now ≡ Some (change_made server.now change)) }
     ensures fits { IfOk result (Fits server.now) }
 {
     match server.decide(cmd, texts) {

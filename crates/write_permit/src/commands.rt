@@ -1,7 +1,7 @@
 ghost use Rattle.std.specs.Prelude.{◌≡◌, [], IfOk};
 ghost use Rattle.server_core.specs.ServerState.{ServerState};
 ghost use Rattle.script_core.specs.declared.script.ScriptCmd.TheVariants.{Purge};
-ghost use Rattle.write_permit.specs.Permit.{is_spawn, opening, purged_code};
+ghost use Rattle.write_permit.specs.Permit.{is_spawn, command_opening, purged_code};
 
 use script_core::ScriptCmd;
 use server_core::{Cmd, RefList, Server};
@@ -33,7 +33,7 @@ pub fn is_spawn(command: &ScriptCmd) -> bool
 
 /// The command of the server with which a command of the script is made, unless it is a purge of old code. A soft purge is made as no process lingers.
 pub fn opening(alloc: Global, command: &ScriptCmd) -> Result<Cmd, NoMemory>
-    ensures { IfOk result (λ cmd. (s : ServerState) → cmd ≡ opening s [] command.now) }
+    ensures { IfOk result (λ cmd. (s : ServerState) → cmd ≡ command_opening s [] command.now) }
 {
     Ok(match command {
         ScriptCmd::Load(refs) => Cmd::Load(RefList::from_slice(alloc, refs.as_slice())?),

@@ -1,5 +1,5 @@
 ghost use Rattle.std.specs.Prelude.{◌≡◌, IfOk};
-ghost use Rattle.server_core.specs.Decided.{Fits, made};
+ghost use Rattle.server_core.specs.Decided.{Fits, change_made};
 ghost use Rattle.server_core.specs.ServerState.{ServerState};
 
 use server_core::{Applied, Change, Reply};
@@ -10,7 +10,7 @@ use term_core::{AtomList, NoMemory};
 ///
 /// So an entry can join the journal before its change is made, and making it meets no want of memory.
 pub fn foretold(alloc: Global, change: &Change) -> Result<Applied, NoMemory>
-    ensures { (s : ServerState) → Fits s change.now → IfOk result (λ applied. applied ≡ (made s change.now).answer) }
+    ensures { (s : ServerState) → Fits s change.now → IfOk result (λ applied. applied ≡ (change_made s change.now).answer) }
 {
     Ok(Applied {
         reply: reply_of(alloc, change)?,
@@ -20,7 +20,7 @@ pub fn foretold(alloc: Global, change: &Change) -> Result<Applied, NoMemory>
 
 /// What making the change will reply.
 fn reply_of(alloc: Global, change: &Change) -> Result<Reply, NoMemory>
-    ensures { (s : ServerState) → IfOk result (λ reply. reply ≡ (made s change.now).answer.reply) }
+    ensures { (s : ServerState) → IfOk result (λ reply. reply ≡ (change_made s change.now).answer.reply) }
 {
     match change {
         Change::Nothing(reply) => copied(alloc, reply),
@@ -40,7 +40,7 @@ fn reply_of(alloc: Global, change: &Change) -> Result<Reply, NoMemory>
 
 /// The generation that making the change will publish, if it does.
 fn published_by(change: &Change) -> Option<u64>
-    ensures { (s : ServerState) → Fits s change.now → result ≡ (made s change.now).answer.published }
+    ensures { (s : ServerState) → Fits s change.now → result ≡ (change_made s change.now).answer.published }
 {
     match change {
         Change::Nothing(_) | Change::GiveBack { .. } => None,

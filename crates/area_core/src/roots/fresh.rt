@@ -2,7 +2,7 @@
 
 ghost use Rattle.std.specs.Prelude.{◌≡◌, ◌++◌, IfOk, OnOk};
 ghost use Rattle.std.specs.List.{list_all};
-ghost use Rattle.area_core.specs.Roots.{are_apart, fresh_areas, fresh_in, image_of, is_apart};
+ghost use Rattle.area_core.specs.Roots.{are_apart, fresh_areas, fresh_in, serial_image, is_apart};
 
 use crate::generations::is_kept;
 use crate::table::{KeptArea, KeptList, Published};
@@ -51,7 +51,7 @@ fn push_fresh(
 
 /// The image of this serial, if there is one.
 fn image_of(alloc: Global, areas: &[AreaWords], serial: u64) -> Result<Option<WordList>, NoMemory>
-    ensures { IfOk result (λ image. image ≡ image_of areas.now serial) }
+    ensures { IfOk result (λ image. image ≡ serial_image areas.now serial) }
 {
     for area in areas {
         if area.serial == serial {

@@ -1,7 +1,7 @@
 //! What events make of a watcher's record, and where they may.
 
 ghost use Rattle.std.specs.Prelude.{◌≡◌};
-ghost use Rattle.prgr_core.specs.Watchers.{delay_of, delay_numbered, other_delay, is_same_delay, holds, may_look, may_add, is_claimed, may_leave, phase_seeing, counter_watched, with_hold, phase_holding, delay_added, root_watched, delay_dropped};
+ghost use Rattle.prgr_core.specs.Watchers.{delay_of, delay_numbered, other_delay, is_same_delay, holds_delay, may_look, may_add, is_claimed, may_leave, phase_seeing, counter_watched, with_held_count, phase_holding, delay_added, root_watched, delay_dropped};
 ghost use Rattle.prgr_core.specs.Step.{opening_watcher};
 
 use crate::watcher::{Delay, Phase, Watcher};
@@ -155,7 +155,7 @@ impl Watcher {
 
     /// Whether it holds the count of this delay counter.
     pub fn holds(self, delay: Delay) -> bool
-        ensures { result ≡ holds delay self }
+        ensures { result ≡ holds_delay delay self }
     {
         match delay {
             Delay::Even => self.holds_even,
@@ -165,7 +165,7 @@ impl Watcher {
 
     /// The watcher with this count held, or not held.
     pub fn with_hold(self, delay: Delay, held: bool) -> Watcher
-        ensures { result ≡ with_hold delay held self }
+        ensures { result ≡ with_held_count delay held self }
     {
         let mut watcher = self;
         match delay {

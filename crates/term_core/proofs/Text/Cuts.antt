@@ -6,7 +6,7 @@ use Rattle.std.proofs.lemmas.Bool.Decides.{Decides-eqb}
 use Rattle.std.proofs.lemmas.List.Folds.{list_all-append}
 use Rattle.std.specs.Char.{is_ascii_digit}
 use Rattle.term_core.specs.Names.{is_name_byte, is_atom_text}
-use Rattle.term_core.specs.Text.Cuts.{with_first, cut_at, Lines, lines, before_lines, lines_of}
+use Rattle.term_core.specs.Text.Cuts.{with_first, cut_at, Lines, lines, before_lines, lines_of_text}
 use Rattle.term_core.specs.Text.Numbers.{is_number_text}
 use Rattle.term_core.proofs.TermBytes.{name_bytes-atom}
 use Rattle.term_core.proofs.Text.Numbers.{number_digits}
@@ -87,21 +87,21 @@ uncut byte (x ∷ a) h =
 -- ---- lines
 
 -- the lines of a text that begins with a line
-pub lines_behind : (line rest : List ℕ) → lacks 10 line ≡ true → lines_of (line ++ 10 ∷ rest) ≡ lines (line ∷ (lines_of rest).ended) (lines_of rest).tail
+pub lines_behind : (line rest : List ℕ) → lacks 10 line ≡ true → lines_of_text (line ++ 10 ∷ rest) ≡ lines (line ∷ (lines_of_text rest).ended) (lines_of_text rest).tail
 lines_behind [] rest h = refl
 lines_behind (b ∷ line) rest h =
     let parts = and_parts (not (b == 10)) (lacks 10 line) h in
-    failed (b == 10) (lines ([] ∷ (lines_of (line ++ 10 ∷ rest)).ended) (lines_of (line ++ 10 ∷ rest)).tail) (before_lines b (lines_of (line ++ 10 ∷ rest)).ended (lines_of (line ++ 10 ∷ rest)).tail) (not-true (b == 10) parts.0)
+    failed (b == 10) (lines ([] ∷ (lines_of_text (line ++ 10 ∷ rest)).ended) (lines_of_text (line ++ 10 ∷ rest)).tail) (before_lines b (lines_of_text (line ++ 10 ∷ rest)).ended (lines_of_text (line ++ 10 ∷ rest)).tail) (not-true (b == 10) parts.0)
     ∙ ap (λ (w : Lines). before_lines b w.ended w.tail) (lines_behind line rest parts.1)
 
 -- a text with no line feed is a tail
-pub lines_of_tail : (text : List ℕ) → lacks 10 text ≡ true → lines_of text ≡ lines [] text
+pub lines_of_tail : (text : List ℕ) → lacks 10 text ≡ true → lines_of_text text ≡ lines [] text
 lines_of_tail [] h = refl
 lines_of_tail (b ∷ text) h =
     let parts = and_parts (not (b == 10)) (lacks 10 text) h in
-    failed (b == 10) (lines ([] ∷ (lines_of text).ended) (lines_of text).tail) (before_lines b (lines_of text).ended (lines_of text).tail) (not-true (b == 10) parts.0)
+    failed (b == 10) (lines ([] ∷ (lines_of_text text).ended) (lines_of_text text).tail) (before_lines b (lines_of_text text).ended (lines_of_text text).tail) (not-true (b == 10) parts.0)
     ∙ ap (λ (w : Lines). before_lines b w.ended w.tail) (lines_of_tail text parts.1)
 
 -- the first line of a text is where it is cut
-pub lines_of_cut : (text : List ℕ) (p : List ℕ × List ℕ) → cut_at 10 text ≡ Some p → lines_of text ≡ lines (p.0 ∷ (lines_of p.1).ended) (lines_of p.1).tail
-lines_of_cut text p e = let is = cut_is 10 text p e in ap lines_of is.whole ∙ lines_behind p.0 p.1 is.first
+pub lines_of_cut : (text : List ℕ) (p : List ℕ × List ℕ) → cut_at 10 text ≡ Some p → lines_of_text text ≡ lines (p.0 ∷ (lines_of_text p.1).ended) (lines_of_text p.1).tail
+lines_of_cut text p e = let is = cut_is 10 text p e in ap lines_of_text is.whole ∙ lines_behind p.0 p.1 is.first

@@ -6,7 +6,7 @@ use Rattle.std.proofs.lemmas.Bool.{and_parts, and_from}
 use Rattle.term_core.specs.Text.Steps.{◌>>=◌}
 use Rattle.term_core.proofs.Text.Options.{some, some_is, bind_some, bind_at}
 use Rattle.term_core.proofs.Text.Cuts.{lacks, lacks-append, lacks-cons}
-use Rattle.term_core.specs.Text.Parts.{parts_of, each_reading}
+use Rattle.term_core.specs.Text.Parts.{parts_between, each_reading}
 use Rattle.term_core.proofs.Text.Parts.{parts_at, parts_whole, parts_are_some, join-parts}
 
 -- the bytes are the text of this item, which fits
@@ -50,13 +50,13 @@ each_count read (part ∷ parts) xs e =
     omega (arith, same, more)
 
 -- items that lack the byte, with it between them, have their texts for parts
-pub parts_joined : {X : Type 0} (write : X → List ℕ) (Fits : X → Type 0) (byte : ℕ) → ((x : X) → Fits x → lacks byte (write x) ≡ true) → (x : X) (xs : List X) → AllByRecursion Fits (x ∷ xs) → parts_of byte (join_with_byte byte (map write (x ∷ xs))) ≡ map write (x ∷ xs)
+pub parts_joined : {X : Type 0} (write : X → List ℕ) (Fits : X → Type 0) (byte : ℕ) → ((x : X) → Fits x → lacks byte (write x) ≡ true) → (x : X) (xs : List X) → AllByRecursion Fits (x ∷ xs) → parts_between byte (join_with_byte byte (map write (x ∷ xs))) ≡ map write (x ∷ xs)
 parts_joined write Fits byte apart x [] h = parts_whole byte (write x) (apart x h.0)
 parts_joined write Fits byte apart x (y ∷ ys) h =
     parts_at byte (write x) (join_with_byte byte (map write (y ∷ ys))) (apart x h.0) ∙ ap (λ (ps : List (List ℕ)). write x ∷ ps) (parts_joined write Fits byte apart y ys h.1)
 
 -- so they are read again
-pub joined_again : {X : Type 0} (write : X → List ℕ) (read : List ℕ → Option X) (Fits : X → Type 0) (byte : ℕ) → ((x : X) → Fits x → read (write x) ≡ Some x) → ((x : X) → Fits x → lacks byte (write x) ≡ true) → (x : X) (xs : List X) → AllByRecursion Fits (x ∷ xs) → each_reading read (parts_of byte (join_with_byte byte (map write (x ∷ xs)))) ≡ Some (x ∷ xs)
+pub joined_again : {X : Type 0} (write : X → List ℕ) (read : List ℕ → Option X) (Fits : X → Type 0) (byte : ℕ) → ((x : X) → Fits x → read (write x) ≡ Some x) → ((x : X) → Fits x → lacks byte (write x) ≡ true) → (x : X) (xs : List X) → AllByRecursion Fits (x ∷ xs) → each_reading read (parts_between byte (join_with_byte byte (map write (x ∷ xs)))) ≡ Some (x ∷ xs)
 joined_again write read Fits byte again apart x xs h = ap (each_reading read) (parts_joined write Fits byte apart x xs h) ∙ each_again write read Fits again (x ∷ xs) h
 
 -- what was read of a text's parts, joined, is the text, and there is at least one
@@ -65,10 +65,10 @@ pub record AreJoined {X : Type 0} (write : X → List ℕ) (Fits : X → Type 0)
   pub fit : AllByRecursion Fits xs
   pub some : 0 < length xs
 
-pub joined_is : {X : Type 0} (write : X → List ℕ) (read : List ℕ → Option X) (Fits : X → Type 0) (byte : ℕ) → ((text : List ℕ) (x : X) → read text ≡ Some x → IsItem write Fits text x) → (text : List ℕ) (xs : List X) → each_reading read (parts_of byte text) ≡ Some xs → AreJoined write Fits byte text xs
+pub joined_is : {X : Type 0} (write : X → List ℕ) (read : List ℕ → Option X) (Fits : X → Type 0) (byte : ℕ) → ((text : List ℕ) (x : X) → read text ≡ Some x → IsItem write Fits text x) → (text : List ℕ) (xs : List X) → each_reading read (parts_between byte text) ≡ Some xs → AreJoined write Fits byte text xs
 joined_is write read Fits byte one text xs e =
-    let is = each_is write read Fits one (parts_of byte text) xs e in
-    let count = each_count read (parts_of byte text) xs e in
+    let is = each_is write read Fits one (parts_between byte text) xs e in
+    let count = each_count read (parts_between byte text) xs e in
     let some = parts_are_some byte text in
     record {
       text_is = sym (join-parts byte text) ∙ ap (join_with_byte byte) is.texts;

@@ -1,7 +1,7 @@
 -- Options that are read one after the other, and tests.
 use Rattle.std.proofs.Common.{◌≡◌, ℕ, Bool, true, false, cond, List, Option, Some, None, option_map, bytes_eq, refl, sym, ap, ◌∙◌}
 use Rattle.std.proofs.lemmas.Slice.Eq.{bytes_eq-Decides}
-use Rattle.term_core.specs.Text.Steps.{◌>>=◌, tested}
+use Rattle.term_core.specs.Text.Steps.{◌>>=◌, text_tested}
 
 abbrev pub some : {A : Type 0} → A → Option A
 some x = Some x
@@ -43,10 +43,10 @@ pub bytes_are : (xs ys : List ℕ) → bytes_eq xs ys ≡ true → xs ≡ ys
 bytes_are xs ys e = (bytes_eq-Decides xs ys).0 e
 
 -- a text that passed its test
-pub tested_is : (test : List ℕ → Bool) (text x : List ℕ) → tested test text ≡ Some x → (text ≡ x) × (test x ≡ true)
+pub tested_is : (test : List ℕ → Bool) (text x : List ℕ) → text_tested test text ≡ Some x → (text ≡ x) × (test x ≡ true)
 tested_is test text x e =
     let g = guard_some (test text) text x e in
     (g.1, ap test (sym g.1) ∙ g.0)
 
-pub tested_at : (test : List ℕ → Bool) (text : List ℕ) → test text ≡ true → tested test text ≡ Some text
+pub tested_at : (test : List ℕ → Bool) (text : List ℕ) → test text ≡ true → text_tested test text ≡ Some text
 tested_at test text h = passed (test text) (some text) None h

@@ -25,8 +25,8 @@ before_lines b [] tail = lines [] (b ∷ tail)
 before_lines b (line ∷ others) tail = lines ((b ∷ line) ∷ others) tail
 
 -- the lines of a text
-abbrev pub lines_of : List ℕ → Lines
-lines_of [] = lines [] []
-lines_of (b ∷ bs) =
-    if b == 10 then lines ([] ∷ (lines_of bs).ended) (lines_of bs).tail
-    else before_lines b (lines_of bs).ended (lines_of bs).tail
+abbrev pub lines_of_text : List ℕ → Lines
+lines_of_text [] = lines [] []
+lines_of_text (b ∷ bs) =
+    if b == 10 then lines ([] ∷ (lines_of_text bs).ended) (lines_of_text bs).tail
+    else before_lines b (lines_of_text bs).ended (lines_of_text bs).tail

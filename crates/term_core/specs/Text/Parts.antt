@@ -3,11 +3,11 @@ use Rattle.std.specs.Prelude.{ℕ, ◌==◌, List, [], ◌∷◌, ◌++◌, Opti
 use Rattle.std.specs.List.{slice_split}
 use Rattle.term_core.specs.TermParts.{CutText}
 use Rattle.term_core.specs.Text.Steps.{◌>>=◌}
-pub use Rattle.term_core.specs.Text.Cuts.{cut_at, lines_of}
+pub use Rattle.term_core.specs.Text.Cuts.{cut_at, lines_of_text}
 
 -- the parts between such bytes
-abbrev pub parts_of : ℕ → List ℕ → List (List ℕ)
-parts_of byte text = slice_split (λ b. b == byte) text
+abbrev pub parts_between : ℕ → List ℕ → List (List ℕ)
+parts_between byte text = slice_split (λ b. b == byte) text
 
 -- each part as one
 abbrev pub each_reading : {X : Type 0} → (List ℕ → Option X) → List (List ℕ) → Option (List X)
@@ -27,13 +27,13 @@ abbrev pub first_part : ℕ → List ℕ → CutText
 first_part byte text = part_of_cut text (cut_at byte text)
 
 -- these bytes as a last line, unless there are none
-abbrev pub last_line : List ℕ → List (List ℕ)
-last_line [] = []
-last_line (b ∷ bytes) = (b ∷ bytes) ∷ []
+abbrev pub as_last_line : List ℕ → List (List ℕ)
+as_last_line [] = []
+as_last_line (b ∷ bytes) = (b ∷ bytes) ∷ []
 
 -- all lines, the one without a line feed too
 abbrev pub all_lines : List ℕ → List (List ℕ)
-all_lines text = (lines_of text).ended ++ last_line (lines_of text).tail
+all_lines text = (lines_of_text text).ended ++ as_last_line (lines_of_text text).tail
 
 -- the bytes of lines, each with its line feed
 abbrev pub lines_joined : List (List ℕ) → List ℕ

@@ -10,13 +10,13 @@ None >>= f = None
 (Some x) >>= f = f x
 
 -- the text, where it passes the test
-abbrev pub tested : (List ℕ → Bool) → List ℕ → Option (List ℕ)
-tested test text = if test text then Some text else None
+abbrev pub text_tested : (List ℕ → Bool) → List ℕ → Option (List ℕ)
+text_tested test text = if test text then Some text else None
 
 -- a name and a number with a byte between them
 abbrev pub numbered_reading : ℕ → (List ℕ → Bool) → List ℕ → Option (List ℕ × List ℕ)
 numbered_reading byte test text = do
   parts ← cut_at byte text
-  name ← tested is_atom_text parts.0
-  number ← tested test parts.1
+  name ← text_tested is_atom_text parts.0
+  number ← text_tested test parts.1
   Some (name, number)

@@ -3,7 +3,7 @@ use Rattle.std.proofs.Common.{◌≡◌, ℕ, zero, suc, ◌+◌, ◌%◌, ◌�
 use Rattle.std.proofs.lemmas.Bool.{cases_lt}
 use Rattle.area_core.specs.declared.map.TheConstants.{BUCKETS}
 use Rattle.area_core.specs.Map.{word_at}
-use Rattle.area_core.specs.Blocks.{term_words}
+use Rattle.area_core.specs.Blocks.{term_blocks_words}
 use Rattle.area_core.specs.Terms.{look_at, looked}
 use Rattle.area_core.proofs.Counted.{looked_suc}
 use Rattle.area_core.proofs.terms.looked.Goals as goal
@@ -29,4 +29,4 @@ returns-then-is_some c =
     let below = c.loop-tried-test.true in
     let most : c.loop-tried.tried ≤ c.args.count = search rules in
     let some : is_some c.loop-tried.known ≡ true = search rules in
-    c.loop-tried.invariant ∙ sym (looked_stays (term_words (word_at c.args.words.now) c.args.root) c.args.key c.loop-tried.tried c.args.count most (ap is_some (sym c.loop-tried.invariant) ∙ some))
+    c.loop-tried.invariant ∙ sym (looked_stays (term_blocks_words (word_at c.args.words.now) c.args.root) c.args.key c.loop-tried.tried c.args.count most (ap is_some (sym c.loop-tried.invariant) ∙ some))

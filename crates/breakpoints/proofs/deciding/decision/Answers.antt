@@ -1,7 +1,7 @@
 -- Where the entry word is 0 or the instance is retired, the function is not traced; else the decision tells.
 use Rattle.std.proofs.Common.{◌∙◌, sym, ap}
 use Rattle.area_core.specs.declared.table.Published.{Published}
-use Rattle.area_core.specs.Generations.{is_retired, is_traced}
+use Rattle.area_core.specs.Generations.{is_retired_area, is_traced_function}
 use Rattle.breakpoints.proofs.Looking.{held_still, may_still, read_more}
 use Rattle.breakpoints.proofs.deciding.decision.Goals as goal
 
@@ -17,7 +17,7 @@ returns-then-retired_in-clause-read g c = read_more c.args.member.now c.entry_of
 pub returns-then-retired_in-clause-value : goal.returns-then-retired_in-clause-value
 returns-then-retired_in-clause-value g c =
     let held = held_still c.args.member.now c.entry_of-entry.new.member c.entry_of-entry.ensures.read in
-    sym (c.requires.may.gone (ap (λ (p : Published). is_retired p c.args.at.area.serial) (sym held) ∙ sym c.retired_in.ensures.value ∙ c.if-retired_in.true))
+    sym (c.requires.may.gone (ap (λ (p : Published). is_retired_area p c.args.at.area.serial) (sym held) ∙ sym c.retired_in.ensures.value ∙ c.if-retired_in.true))
 
 pub decided_in-requires-clause-may : goal.decided_in-requires-clause-may
 decided_in-requires-clause-may g c =
@@ -25,7 +25,7 @@ decided_in-requires-clause-may g c =
 
 pub decided_in-requires-clause-live : goal.decided_in-requires-clause-live
 decided_in-requires-clause-live g c =
-    ap (λ (p : Published). is_retired p c.args.at.area.serial) (held_still c.entry_of-entry.new.member c.retired_in.new.member c.retired_in.ensures.read) ∙ sym c.retired_in.ensures.value ∙ c.if-retired_in.false
+    ap (λ (p : Published). is_retired_area p c.args.at.area.serial) (held_still c.entry_of-entry.new.member c.retired_in.new.member c.retired_in.ensures.read) ∙ sym c.retired_in.ensures.value ∙ c.if-retired_in.false
 
 pub returns-clause-read : goal.returns-clause-read
 returns-clause-read g c =
@@ -34,4 +34,4 @@ returns-clause-read g c =
 pub returns-clause-value : goal.returns-clause-value
 returns-clause-value g c =
     let held = held_still c.entry_of-entry.new.member c.retired_in.new.member c.retired_in.ensures.read ∙ held_still c.args.member.now c.entry_of-entry.new.member c.entry_of-entry.ensures.read in
-    c.decided_in.ensures.value ∙ ap (λ (p : Published). is_traced p c.args.at.area.serial c.args.at.function) held
+    c.decided_in.ensures.value ∙ ap (λ (p : Published). is_traced_function p c.args.at.area.serial c.args.at.function) held

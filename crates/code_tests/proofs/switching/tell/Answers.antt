@@ -2,7 +2,7 @@
 use Rattle.std.proofs.Common.{ℕ, refl, sym, subst}
 use Rattle.std.specs.Prelude.{IsTrue}
 use Rattle.area_core.specs.declared.readers.Slots.TheVariants.{OfMember}
-use Rattle.area_core.specs.Readers.{is_of}
+use Rattle.area_core.specs.Readers.{is_slot_of}
 use Rattle.progress_words.specs.Tokens.{view_of, written_by, noted_by}
 use Rattle.code_tests.proofs.Learning.{learnt_all, leads_learnt}
 use Rattle.code_tests.proofs.switching.tell.Goals as goal
@@ -14,7 +14,7 @@ pub learn-requires-clause-note : goal.learn-requires-clause-note
 learn-requires-clause-note c = record { process = refl; seat = c.note-told.ensures.note.seat }
 
 pub learn-requires-clause-own : goal.learn-requires-clause-own
-learn-requires-clause-own c = subst (λ (p : ℕ). IsTrue (is_of (OfMember c.args.leader.now.number c.args.shared.now.table.shared.key.members) p)) (sym c.note-told.ensures.note.process) c.requires.own
+learn-requires-clause-own c = subst (λ (p : ℕ). IsTrue (is_slot_of (OfMember c.args.leader.now.number c.args.shared.now.table.shared.key.members) p)) (sym c.note-told.ensures.note.process) c.requires.own
 
 pub returns-clause-leads : goal.returns-clause-leads
 returns-clause-leads c = leads_learnt _ (noted_by c.note-told.result) c.args.leader.now c.learn.new.member c.requires.leads c.learn.ensures.token c.learn.ensures.joined

@@ -1,6 +1,6 @@
 -- Who waits may ask once more, for the value that was taken.
 use Rattle.std.proofs.Common.{◌≡◌, []}
-use Rattle.shared_words.specs.Views.{newest}
+use Rattle.shared_words.specs.Views.{newest_number}
 use Rattle.progress_words.specs.Tokens.{view_of, written_by, IsMemberOf, IsWriterOf}
 use Rattle.progress_words.specs.Leads.{IsLeader}
 use Rattle.progress_words.specs.Needs.{HasTaken}
@@ -14,5 +14,5 @@ invariant-loop g l = record {
   leads : IsLeader (view_of l.leader);
   slots : (view_of l.leader).slots ≡ [];
   asked : HasAsked (written_by l.fn.writer) (written_by l.writer);
-  taken : HasTaken (written_by l.writer) (newest (written_by l.fn.writer).published) l.need;
+  taken : HasTaken (written_by l.writer) (newest_number (written_by l.fn.writer).published) l.need;
 }

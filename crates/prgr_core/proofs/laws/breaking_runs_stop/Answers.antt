@@ -4,13 +4,13 @@ use Rattle.prgr_core.specs.declared.member.Member.{Member}
 use Rattle.prgr_core.specs.declared.watcher.Watcher.{Watcher}
 use Rattle.prgr_core.specs.declared.progress.Progress.{Progress}
 use Rattle.prgr_core.specs.declared.event.PrgrEvent.{PrgrEvent}
-use Rattle.prgr_core.specs.Step.{after_all, opening, opening_member, opening_watcher}
+use Rattle.prgr_core.specs.Step.{after_all, progress_opening, opening_member, opening_watcher}
 use Rattle.prgr_core.specs.Examples.{released_too_soon, confirmed_with_old_root, woken_without_entering, advanced_over_a_claim, claimed_with_one_count}
 use Rattle.prgr_core.proofs.laws.breaking_runs_stop.Goals as goal
 
 -- where a run of so many members and watchers comes before the event of an index
 abbrev comes_to : ℕ → ℕ → List PrgrEvent → ℕ → Progress
-comes_to members watchers events index = unwrap_or (after_all (opening members watchers) (take (index - 1) events)) (opening members watchers)
+comes_to members watchers events index = unwrap_or (after_all (progress_opening members watchers) (take (index - 1) events)) (progress_opening members watchers)
 
 -- the first member there
 abbrev first_of : Progress → Member

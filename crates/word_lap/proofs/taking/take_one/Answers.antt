@@ -1,5 +1,5 @@
 use Rattle.std.proofs.Common.{sym, ap}
-use Rattle.run_law.specs.Newcomers.{Spawn}
+use Rattle.run_law.specs.Newcomers.{SpawnedProcess}
 use Rattle.word_lap.proofs.Welcomes.{let_go_here}
 use Rattle.word_lap.proofs.taking.take_one.Goals as goal
 
@@ -7,4 +7,4 @@ use Rattle.word_lap.proofs.taking.take_one.Goals as goal
 pub returns-else-belongs-clause-kept : goal.returns-else-belongs-clause-kept
 returns-else-belongs-clause-kept g c =
     let_go_here g.K.Naming.names c.args.shared.now.table.shared.table_id c.args.shared.now.table.shared.key c.args.member.now c.args.newcomer c.newcomer.inside.number c.args.number c.members.result c.args.processes.now
-    (sym (ap (λ (x : Spawn). x.number) c.newcomer.view_is)) c.requires.own c.members.ensures.members c.requires.token (c.belongs.ensures.no c.if-belongs.false)
+    (sym (ap (λ (x : SpawnedProcess). x.number) c.newcomer.view_is)) c.requires.own c.members.ensures.members c.requires.token (c.belongs.ensures.no c.if-belongs.false)

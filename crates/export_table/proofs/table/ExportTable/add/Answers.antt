@@ -3,7 +3,7 @@ use Rattle.std.proofs.Common.{rules, ◌≡◌, Ok, length, map, sym, ap, ◌∙
 use Rattle.std.proofs.lemmas.List.{length-map}
 use Rattle.term_core.proofs.Truths.{none_is_not_some}
 use Rattle.export_table.specs.FunctionKeys.{name_of_key}
-use Rattle.export_table.specs.Exports.{AreEntries, entry_of, names_with}
+use Rattle.export_table.specs.Exports.{AreEntries, entry_of, exports_with}
 use Rattle.export_table.proofs.Entries.{found_at, key_added, entries_with, entry_added, entry_held, one_number}
 use Rattle.export_table.proofs.table.ExportTable.add.Goals as goal
 
@@ -43,8 +43,8 @@ returns-in_err-insert-clause-known c = λ number at.
     absurd (none_is_not_some (entry_of c.args.self.now c.args.to) number (found ∙ c.in_default.is) at)
 
 -- the names after the insertion
-after : (c : goal.In_ok-insert) → map name_of_key c.insert.new.self.keys ≡ names_with c.args.self.now c.args.to
-after c = ap (map name_of_key) c.in_ok-insert.ensures.keys ∙ key_added c.self.inside.keys.keys c.function_key-key.result ∙ (λ i. names_with (c.self.view_is i) (c.function_key-key.ensures i))
+after : (c : goal.In_ok-insert) → map name_of_key c.insert.new.self.keys ≡ exports_with c.args.self.now c.args.to
+after c = ap (map name_of_key) c.in_ok-insert.ensures.keys ∙ key_added c.self.inside.keys.keys c.function_key-key.result ∙ (λ i. exports_with (c.self.view_is i) (c.function_key-key.ensures i))
 
 held : (c : goal.In_ok-insert) → c.len-number.result ≡ length c.args.self.now
 held c = c.len-number.ensures.len ∙ sym (length-map c.self.inside.keys.keys name_of_key) ∙ ap length c.self.view_is

@@ -1,6 +1,6 @@
 -- What `add` answers, by the number that its set finds.
 use Rattle.std.proofs.Common.{rules, ◌≡◌, None, length, ap, ◌∙◌, arith, subst}
-use Rattle.term_core.specs.Names.{IsNames, number_of, names_with, texts_of}
+use Rattle.term_core.specs.Names.{IsNames, number_of, names_with, set_texts}
 use Rattle.term_core.proofs.NameTables.{AtomText-known, number_at, length-texts, Grows, grows}
 use Rattle.term_core.proofs.Truths.{none_is_not_some}
 use Rattle.term_core.proofs.names.Names.add.Goals as goal
@@ -27,12 +27,12 @@ returns-then-number-ge-MOST_NAMES-clause-full c =
     ((λ _. (none, held)), (λ _. search rules))
 
 -- the set after the insertion is the table with the text named
-growth : (c : goal.In_ok-insert_text) → Grows c.args.self.now c.args.text.now c.len-number.result (texts_of c.insert_text.new.texts)
+growth : (c : goal.In_ok-insert_text) → Grows c.args.self.now c.args.text.now c.len-number.result (set_texts c.insert_text.new.texts)
 growth c =
     let found = number_at c.self.inside.texts c.args.self.now c.ascii_text-text.result.now c.args.text.now c.get_index_of.result c.self.view_is c.ascii_text-text.ensures c.get_index_of.ensures.index in
-    let after : texts_of c.insert_text.new.texts ≡ names_with c.args.self.now c.args.text.now = c.in_ok-insert_text.ensures.ok ∙ ap (λ names. names_with names c.ascii_text-text.result.now) c.self.view_is ∙ ap (names_with c.args.self.now) c.ascii_text-text.ensures in
+    let after : set_texts c.insert_text.new.texts ≡ names_with c.args.self.now c.args.text.now = c.in_ok-insert_text.ensures.ok ∙ ap (λ names. names_with names c.ascii_text-text.result.now) c.self.view_is ∙ ap (names_with c.args.self.now) c.ascii_text-text.ensures in
     let held : c.len-number.result ≡ length c.args.self.now = c.len-number.ensures.len ∙ length-texts c.self.inside.texts c.args.self.now c.self.view_is in
-    grows c.args.self.now c.args.text.now c.len-number.result (texts_of c.insert_text.new.texts) (subst IsNames c.self.view_is c.self.invariant) c.requires (found ∙ c.in_default.is) held c.if-number-ge-MOST_NAMES.false after
+    grows c.args.self.now c.args.text.now c.len-number.result (set_texts c.insert_text.new.texts) (subst IsNames c.self.view_is c.self.invariant) c.requires (found ∙ c.in_default.is) held c.if-number-ge-MOST_NAMES.false after
 
 -- it is a table
 pub invariant_of-self-2 : goal.invariant_of-self-2
