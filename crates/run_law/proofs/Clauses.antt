@@ -64,26 +64,26 @@ module _ (names : List Mfa) (s : Script) (log : RunLog) (w : WriterView) (over :
   -- the last turn of a process up to a drop has a mark that does not name what was dropped
   unmarked : (kind : LookKind) (serial published number : ℕ) (process : ProcessLog) (m : MemberView) → HasDrop w.looks kind serial published
       → slice_get log.processes number ≡ Some process → IsMemberOf w number m
-      → IfSome (last_turn_up_to published (reverse (process_of m number).marks)) (slots.NamesNot kind serial)
+      → IfSome (last_turn_up_to published (reverse (process_of m number).marks)) (slots.MarksNameNot kind serial)
   unmarked kind serial published number process m d at own =
       let line = line_of_process names s log w over number process at in
       let turns : List words.Mark = reverse (process_of m number).marks in
       let here = drop_true (under_of m) number (process_of m number) w.looks d.drop
       (known_in names s log w over number line.0 process m line.1 at own)
       (rests_in names s log w over number line.0 process m line.1 at own) d.among in
-      subst (λ (n : ℕ). IfSome (last_turn_up_to n turns) (slots.NamesNot kind serial)) d.published_is
-      (subst (λ (n : ℕ). IfSome (last_turn_up_to d.drop.generation turns) (slots.NamesNot kind n)) d.serial_is
-      (subst (λ (k : LookKind). IfSome (last_turn_up_to d.drop.generation turns) (slots.NamesNot k d.drop.wait.serial)) d.kind_is here))
+      subst (λ (n : ℕ). IfSome (last_turn_up_to n turns) (slots.MarksNameNot kind serial)) d.published_is
+      (subst (λ (n : ℕ). IfSome (last_turn_up_to d.drop.generation turns) (slots.MarksNameNot kind n)) d.serial_is
+      (subst (λ (k : LookKind). IfSome (last_turn_up_to d.drop.generation turns) (slots.MarksNameNot k d.drop.wait.serial)) d.kind_is here))
 
   -- so the turn of that mark does not either
   unnamed : (kind : LookKind) (serial published number : ℕ) (process : ProcessLog) (Q : Mark → Type 0)
-      → ((m : words.Mark) (turn : Mark) → Tells m turn → slots.NamesNot kind serial m → Q turn) → HasDrop w.looks kind serial published
+      → ((m : words.Mark) (turn : Mark) → Tells m turn → slots.MarksNameNot kind serial m → Q turn) → HasDrop w.looks kind serial published
       → slice_get log.processes number ≡ Some process → IfSome (last_up_to published (turns_in_log s log number process)) Q
   unnamed kind serial published number process Q f d at =
       let m = member_of_process names s log w over number in
       let line = line_of_process names s log w over number process at in
       let turns : List words.Mark = reverse (process_of m.0 number).marks in
-      told_of (slots.NamesNot kind serial) Q f (last_turn_up_to published turns) (last_up_to published (turns_in_log s log number process))
+      told_of (slots.MarksNameNot kind serial) Q f (last_turn_up_to published turns) (last_up_to published (turns_in_log s log number process))
       (last_told published turns (turns_in_log s log number process) (told names s log w over number line.0 process m.0 line.1 at m.1).marks)
       (unmarked kind serial published number process m.0 d at m.1)
 

@@ -139,7 +139,7 @@ frame_named anchors serial held is h =
     ap (λ (x : Holds). is_among x.frames serial) (sym is) ∙ among-serials_of (named_for Frame anchors) serial ∙ named_among Frame serial anchors h.place h.word h.at h.passes
 
 -- a process whose mark does not name an area names it in no way
-pub both_unnamed : (serial : ℕ) (m : words.Mark) (turn : Mark) → Tells m turn → slots_kept.NamesNot looks.Both serial m → NamesNot serial turn.process
+pub both_unnamed : (serial : ℕ) (m : words.Mark) (turn : Mark) → Tells m turn → slots_kept.MarksNameNot looks.Both serial m → NamesNot serial turn.process
 both_unnamed serial m turn told none = record {
   frames = frame_unnamed m.anchors serial (names_of turn.process) told.1
       (λ h. none (record { place = h.place; word = h.word; at = h.at; passes = or_left (names_frame h.word serial) (names_literal h.word serial) h.passes }));
@@ -148,7 +148,7 @@ both_unnamed serial m turn told none = record {
 }
 
 -- and one whose mark does not name an instance for a frame does not stand in it
-pub frame_left : (serial : ℕ) (m : words.Mark) (turn : Mark) → Tells m turn → slots_kept.NamesNot looks.Frame serial m → StandsNotIn serial turn.process
+pub frame_left : (serial : ℕ) (m : words.Mark) (turn : Mark) → Tells m turn → slots_kept.MarksNameNot looks.Frame serial m → StandsNotIn serial turn.process
 frame_left serial m turn told none = frame_unnamed m.anchors serial (names_of turn.process) told.1 none
 
 -- a process that lingered by its marks did so by its turns
@@ -163,6 +163,6 @@ lingers_told serial published turn marks turns told l =
       had = t.1.0;
       seen = subst (λ (n : ℕ). n ≤ published) t.1.1.0 l.seen;
       stands = frame_named l.mark.anchors serial (names_of (t.0).process) t.1.1.1 l.stands;
-      next = told_of (λ m. published ≤ m.generation) (λ m. published ≤ m.generation) (λ m n both h. subst (λ (k : ℕ). published ≤ k) both.0 h)
+      later = told_of (λ m. published ≤ m.generation) (λ m. published ≤ m.generation) (λ m n both h. subst (λ (k : ℕ). published ≤ k) both.0 h)
           (slice_get marks (l.place + 1)) (slice_get turns (l.place + 1)) (place_told marks turns told (l.place + 1)) l.next;
     }

@@ -6,9 +6,9 @@ use Rattle.script_core.specs.Processes.{SpawnLine, spawns_of}
 use Rattle.run_log.specs.declared.logs.Entry.{Entry}
 use Rattle.run_log.specs.Legal.{commands_of}
 use Rattle.run_steps.proofs.Ends.{line_text}
-use Rattle.run_law.specs.Newcomers.{AreAllDone, ArePosted, AreTaken, IsTaken, Spawn, spawn_for}
+use Rattle.run_law.specs.Newcomers.{AreAllDone, ArePosted, AreTaken, IsTaken, SpawnedProcess, spawn_for}
 
-pub spawn_taken : (s : Script) (done : ℕ → ℕ) (journal : List Entry) (homes home : ℕ) (put taken : List Spawn)
+pub spawn_taken : (s : Script) (done : ℕ → ℕ) (journal : List Entry) (homes home : ℕ) (put taken : List SpawnedProcess)
     → AreAllDone s done → ArePosted s done journal homes home put → AreTaken put taken
     → (number : ℕ) (line : SpawnLine) → slice_get (spawns_of 0 s.loaders) number ≡ Some line → number % homes ≡ home → IsTaken journal number line taken
 spawn_taken s done journal homes home put taken all posted are number line at own = record {

@@ -28,7 +28,7 @@ use Rattle.run_steps.specs.Stands.{Stand}
 use Rattle.run_law.specs.Answers.{AreAnswersKept}
 use Rattle.run_law.specs.Ended.{AreBeginnings, HaveCome}
 use Rattle.run_law.specs.Ends.{Closes, HasItsRest, HasItsSnapshots, IsHistory, IsOver}
-use Rattle.run_law.specs.Newcomers.{AreAllDone, ArePosted, AreTaken, IsTaken, Spawn}
+use Rattle.run_law.specs.Newcomers.{AreAllDone, ArePosted, AreTaken, IsTaken, SpawnedProcess}
 use Rattle.run_law.specs.Observing.{HaveWatched}
 use Rattle.run_law.specs.Published.{ArePublished, IsJournal, states_of}
 use Rattle.run_law.specs.Reading.{reads_under}
@@ -93,7 +93,7 @@ TablesTell =
 -- under its number
 abbrev pub SpawnsAreTaken : Type 0
 SpawnsAreTaken =
-    (s : Script) (done : ℕ → ℕ) (journal : List Entry) (homes home : ℕ) (put taken : List Spawn)
+    (s : Script) (done : ℕ → ℕ) (journal : List Entry) (homes home : ℕ) (put taken : List SpawnedProcess)
     → AreAllDone s done → ArePosted s done journal homes home put → AreTaken put taken
     → (number : ℕ) (line : SpawnLine) → slice_get (spawns_of 0 s.loaders) number ≡ Some line → number % homes ≡ home → IsTaken journal number line taken
 

@@ -138,8 +138,8 @@ abbrev pub SpansFollow : (ℕ → ServerState) → PlainProcess → List Span �
 SpansFollow states p [] fin = ⊥
 SpansFollow states p (span ∷ []) fin =
     IsSomeAnd (turns_of (states span.generation) span.turns p []) (λ t. (t.made ≡ span.lines) × (t.end ≡ Ended fin))
-SpansFollow states p (span ∷ next ∷ spans) fin =
-    (span.generation ≤ next.generation) × IsSomeAnd (turns_of (states span.generation) span.turns p []) (λ t. (t.made ≡ span.lines) × (t.end ≡ Again) × SpansFollow states t.process (next ∷ spans) fin)
+SpansFollow states p (span ∷ other ∷ spans) fin =
+    (span.generation ≤ other.generation) × IsSomeAnd (turns_of (states span.generation) span.turns p []) (λ t. (t.made ≡ span.lines) × (t.end ≡ Again) × SpansFollow states t.process (other ∷ spans) fin)
 
 -- the spans are the turns of a process so far, up to the present process, each under its generation, with just their lines; none has ended it
 abbrev pub SpansGo : (ℕ → ServerState) → PlainProcess → List Span → PlainProcess → Type 0
@@ -221,7 +221,7 @@ pub record Lingers (serial published turn : ℕ) (marks : List Mark) : Type 0 wh
   pub had : slice_get marks place ≡ Some mark
   pub seen : mark.generation ≤ published
   pub stands : is_among (names_of mark.process).frames serial ≡ true
-  pub next : IfSome (slice_get marks (place + 1)) (λ m. published ≤ m.generation)
+  pub later : IfSome (slice_get marks (place + 1)) (λ m. published ≤ m.generation)
 
 -- a soft purge that tells of a process that lingers tells the truth
 abbrev pub LingersTold : Script → RunLog → Type 0
@@ -252,7 +252,7 @@ pub record PurgedUnnamed (s : Script) (log : RunLog) : Type 0 where
 abbrev pub AreRising : List Snapshot → Type 0
 AreRising [] = Unit {0}
 AreRising (shot ∷ []) = Unit {0}
-AreRising (shot ∷ next ∷ shots) = (shot.generation ≤ next.generation) × AreRising (next ∷ shots)
+AreRising (shot ∷ other ∷ shots) = (shot.generation ≤ other.generation) × AreRising (other ∷ shots)
 
 -- each observer has as many snapshots as its line says; each is of the exports of its generation, and no generation is older than that of the snapshot before
 pub record SnapshotsTrue (s : Script) (log : RunLog) : Type 0 where

@@ -19,6 +19,6 @@ abbrev pub exports_among : ServerState → List Mfa → List (Mfa × ℕ)
 exports_among s functions = filter_map (export_in s) functions
 
 -- what an observer sees of a state: its generation, and its exports, where these are the exported functions of the module texts that its instances are of
-pub record IsSnapshotOf (s : ServerState) (functions : List Mfa) (shot : Snapshot) : Type 0 where
+pub record IsSnapshotOfState (s : ServerState) (functions : List Mfa) (shot : Snapshot) : Type 0 where
   pub generation : shot.generation ≡ s.generation
   pub exports : (names : List (List ℕ)) (texts : List Module) → AreExportedFunctions names texts functions → AreOfTexts texts s → AreExports names s shot.exports

@@ -37,7 +37,7 @@ module _ (g : ℕ) (earlier under after : List Mark) (low : AllByRecursion (λ m
       let other = eqb-false (h.place + 1) (length earlier) is in
       let m = get_within earlier (h.place + 1) (omega (arith, within, other)) in
       let old = all_at (λ n. n.generation < g) earlier (h.place + 1) m.0 low m.1 in
-      let new = next_is all (h.place + 1) m.0 (get_front earlier (under ++ after) (h.place + 1) m.0 m.1) h.next in
+      let new = next_is all (h.place + 1) m.0 (get_front earlier (under ++ after) (h.place + 1) m.0 m.1) h.later in
       absurd (omega (arith, old, new))
 
   behind_start : (serial turn : ℕ) (h : Lingers serial g turn all) (n : ℕ) → h.place ≡ length earlier + n → JoinedAt under after n h.mark → LingersAt serial turn earlier under
@@ -69,7 +69,7 @@ module _ (g : ℕ) (earlier under after : List Mark) (low : AllByRecursion (λ m
         had = get_front earlier (under ++ after) place m had;
         seen = omega (arith, old);
         stands = stands;
-        next = next_late (place + 1) 0 (omega (arith, last));
+        later = next_late (place + 1) 0 (omega (arith, last));
       }
   at_lingers serial turn (at_turn m place counted had stands) =
       let same = all_at (λ n. n.generation ≡ g) under place m here had in
@@ -80,7 +80,7 @@ module _ (g : ℕ) (earlier under after : List Mark) (low : AllByRecursion (λ m
         had = get_behind earlier (under ++ after) place ∙ get_front under after place m had;
         seen = omega (arith, same);
         stands = stands;
-        next = next_late (length earlier + place + 1) (place + 1) (omega arith);
+        later = next_late (length earlier + place + 1) (place + 1) (omega arith);
       }
 
 -- ---- the turns of spans

@@ -2,7 +2,7 @@ ghost use Rattle.std.specs.Prelude.{◌≡◌, ℕ, List, IfOk};
 ghost use Rattle.mod_core.specs.declared.code.Module.{Module};
 ghost use Rattle.run_log.specs.Snapshots.{AreExports};
 ghost use Rattle.run_log.specs.ExportedFunctions.{AreExportedFunctions};
-ghost use Rattle.run_log.specs.SeenExports.{IsSnapshotOf, exports_among};
+ghost use Rattle.run_log.specs.SeenExports.{IsSnapshotOfState, exports_among};
 ghost use Rattle.run_log.specs.InstanceTexts.{AreOfTexts};
 
 use crate::exports::functions::MfaList;
@@ -18,7 +18,7 @@ pub fn snapshot_of(
     server: &Server,
     functions: &MfaList,
 ) -> Result<Snapshot, NoMemory>
-    ensures { IfOk result (λ shot. IsSnapshotOf server.now functions.now shot) }
+    ensures { IfOk result (λ shot. IsSnapshotOfState server.now functions.now shot) }
 {
     let generation = server.generation();
     let exports = exports_among(alloc, server, functions)?;
