@@ -209,10 +209,10 @@ pub fn expected_release(alloc: Global, script: &Script, log: &RunLog) -> Result<
         Place::End,
         b"a release of each area that was retired",
     )?;
-    match replay.server.retired_areas().first() {
+    match replay.server.oldest_retired() {
         Some(serial) => found
             .say(b", as `entry rt release ")?
-            .say_number(*serial)?
+            .say_number(serial)?
             .say(b" = ok -`"),
         None => Ok(found),
     }

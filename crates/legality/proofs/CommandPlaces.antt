@@ -12,7 +12,7 @@ use Rattle.run_log.specs.declared.logs.Who.{Who}
 use Rattle.run_log.specs.declared.logs.Who.TheVariants.{Loader}
 use Rattle.run_log.specs.Journal.{is_of, entries_of, ends_one}
 use Rattle.run_log.specs.Legal.{ended_by, commands_in}
-use Rattle.legality.specs.Places.{AreLeft, place_of}
+use Rattle.legality.specs.Places.{AreLeft, loader_place}
 use Rattle.script_core.specs.Processes.{commands_at}
 use Rattle.script_core.proofs.JoinedPlaces.{got}
 use Rattle.legality.proofs.ListPlaces.{drop_next, drop_begins}
@@ -66,26 +66,26 @@ took_here commands p c whole rest at is =
 
 -- the next command of a loader is taken by the entry that ends it
 pub took : (loaders : List (List ScriptCmd)) (places : List ℕ) (loader : ℕ) (e : Entry) (journal : List Entry) (c : ScriptCmd) → e.who ≡ Loader loader → ended_by e.cmd ≡ c ∷ [] → loader < length places
-    → slice_get (commands_at loaders loader) (place_of places loader) ≡ Some c
-    → AreLeft loaders places (e ∷ journal) ↔ (IsTrue true × AreLeft loaders (slice_set places loader (place_of places loader + 1)) journal)
+    → slice_get (commands_at loaders loader) (loader_place places loader) ≡ Some c
+    → AreLeft loaders places (e ∷ journal) ↔ (IsTrue true × AreLeft loaders (slice_set places loader (loader_place places loader + 1)) journal)
 took loaders places loader e journal c by is less at = (λ h. (refl, λ k. (each k).0 (h k)), λ h. λ k. (each k).1 (h.1 k))
   where
     own : commands_in loader (e ∷ journal) ≡ c ∷ commands_in loader journal
     own = commands_of_own loader e journal (is_own loader e.who by) ∙ ap (λ xs. xs ++ commands_in loader journal) is
 
-    place_own : place_of (slice_set places loader (place_of places loader + 1)) loader ≡ place_of places loader + 1
-    place_own = get_or-set_same places loader (place_of places loader + 1) 0 less
+    place_own : loader_place (slice_set places loader (loader_place places loader + 1)) loader ≡ loader_place places loader + 1
+    place_own = get_or-set_same places loader (loader_place places loader + 1) 0 less
 
-    place_other : (k : ℕ) → (k ≡ loader → ⊥) → place_of (slice_set places loader (place_of places loader + 1)) k ≡ place_of places k
-    place_other k n = get_or-set_other places loader k (place_of places loader + 1) 0 n
+    place_other : (k : ℕ) → (k ≡ loader → ⊥) → loader_place (slice_set places loader (loader_place places loader + 1)) k ≡ loader_place places k
+    place_other k n = get_or-set_other places loader k (loader_place places loader + 1) 0 n
 
     Each : ℕ → Type 0
-    Each k = (commands_in k (e ∷ journal) ≡ drop (place_of places k) (commands_at loaders k)) ↔ (commands_in k journal ≡ drop (place_of (slice_set places loader (place_of places loader + 1)) k) (commands_at loaders k))
+    Each k = (commands_in k (e ∷ journal) ≡ drop (loader_place places k) (commands_at loaders k)) ↔ (commands_in k journal ≡ drop (loader_place (slice_set places loader (loader_place places loader + 1)) k) (commands_at loaders k))
 
     own_each : Each loader
     own_each =
-        let P : ℕ → Type 0 = λ n. (commands_in loader (e ∷ journal) ≡ drop (place_of places loader) (commands_at loaders loader)) ↔ (commands_in loader journal ≡ drop n (commands_at loaders loader)) in
-        subst P (sym place_own) (took_here (commands_at loaders loader) (place_of places loader) c (commands_in loader (e ∷ journal)) (commands_in loader journal) at own)
+        let P : ℕ → Type 0 = λ n. (commands_in loader (e ∷ journal) ≡ drop (loader_place places loader) (commands_at loaders loader)) ↔ (commands_in loader journal ≡ drop n (commands_at loaders loader)) in
+        subst P (sym place_own) (took_here (commands_at loaders loader) (loader_place places loader) c (commands_in loader (e ∷ journal)) (commands_in loader journal) at own)
 
     other_each : (k : ℕ) → (k ≡ loader → ⊥) → Each k
     other_each k n =
@@ -97,16 +97,16 @@ took loaders places loader e journal c by is less at = (λ h. (refl, λ k. (each
 
 -- an entry that ends another command than the next one leaves none that fit
 pub missed : (loaders : List (List ScriptCmd)) (places : List ℕ) (loader : ℕ) (e : Entry) (journal : List Entry) (next : Option ScriptCmd) → e.who ≡ Loader loader → ends_one e.cmd ≡ true
-    → next ≡ slice_get (commands_at loaders loader) (place_of places loader) → IfSome next (λ c. ended_by e.cmd ≡ c ∷ [] → ⊥) → AreLeft loaders places (e ∷ journal) → ⊥
+    → next ≡ slice_get (commands_at loaders loader) (loader_place places loader) → IfSome next (λ c. ended_by e.cmd ≡ c ∷ [] → ⊥) → AreLeft loaders places (e ∷ journal) → ⊥
 missed loaders places loader e journal next by ends at other h =
     let one = ends_some e.cmd ends in
     let own = commands_of_own loader e journal (is_own loader e.who by) ∙ ap (λ xs. xs ++ commands_in loader journal) one.1 in
-    let here = drop_begins (commands_at loaders loader) (place_of places loader) one.0 (commands_in loader journal) (sym own ∙ h loader) in
+    let here = drop_begins (commands_at loaders loader) (loader_place places loader) one.0 (commands_in loader journal) (sym own ∙ h loader) in
     subst (λ o. IfSome o (λ c. ended_by e.cmd ≡ c ∷ [] → ⊥)) (at ∙ here) other one.1
 
 -- so the answer is no
 pub not_next : (loaders : List (List ScriptCmd)) (places : List ℕ) (loader : ℕ) (e : Entry) (next : Option ScriptCmd) → e.who ≡ Loader loader → ends_one e.cmd ≡ true
-    → next ≡ slice_get (commands_at loaders loader) (place_of places loader) → IfSome next (λ c. ended_by e.cmd ≡ c ∷ [] → ⊥)
+    → next ≡ slice_get (commands_at loaders loader) (loader_place places loader) → IfSome next (λ c. ended_by e.cmd ≡ c ∷ [] → ⊥)
     → (journal : List Entry) → AreLeft loaders places (e ∷ journal) ↔ (IsTrue false × AreLeft loaders places journal)
 not_next loaders places loader e next by ends at other journal = (λ h. absurd (missed loaders places loader e journal next by ends at other h), λ h. absurd (cc (h.0)))
 
@@ -117,28 +117,28 @@ none_beyond (commands ∷ loaders) zero more = absurd (omega (arith, more))
 none_beyond (commands ∷ loaders) (suc k) more = none_beyond loaders k (omega (arith, more))
 
 -- where each loader's commands were taken, none is left
-pub all_taken : (loaders : List (List ScriptCmd)) (places : List ℕ) → ((k : ℕ) → k < length loaders → length (commands_at loaders k) ≤ place_of places k) → AreLeft loaders places []
-all_taken loaders places taken k = ⊎_elim (λ less. sym (drop_all (place_of places k) (commands_at loaders k) (taken k less))) past (cases_lt k (length loaders))
+pub all_taken : (loaders : List (List ScriptCmd)) (places : List ℕ) → ((k : ℕ) → k < length loaders → length (commands_at loaders k) ≤ loader_place places k) → AreLeft loaders places []
+all_taken loaders places taken k = ⊎_elim (λ less. sym (drop_all (loader_place places k) (commands_at loaders k) (taken k less))) past (cases_lt k (length loaders))
   where
-    past : length loaders ≤ k → [] ≡ drop (place_of places k) (commands_at loaders k)
-    past more = let e = none_beyond loaders k more in sym (drop_all (place_of places k) (commands_at loaders k) (omega (arith, ap length e)))
+    past : length loaders ≤ k → [] ≡ drop (loader_place places k) (commands_at loaders k)
+    past more = let e = none_beyond loaders k more in sym (drop_all (loader_place places k) (commands_at loaders k) (omega (arith, ap length e)))
 
 -- the commands of a loader that is there
 pub commands_there : (loaders : List (List ScriptCmd)) (k : ℕ) (commands : List ScriptCmd) → commands ≡ get_or loaders k commands → k < length loaders → commands_at loaders k ≡ commands
 commands_there loaders k commands is less = ap (λ o. unwrap_or o []) (got loaders k commands is less)
 
 -- where one was not, some are left
-pub some_left : (loaders : List (List ScriptCmd)) (places : List ℕ) (k : ℕ) (commands : List ScriptCmd) → commands ≡ get_or loaders k commands → k < length loaders → place_of places k < length commands → AreLeft loaders places [] → ⊥
+pub some_left : (loaders : List (List ScriptCmd)) (places : List ℕ) (k : ℕ) (commands : List ScriptCmd) → commands ≡ get_or loaders k commands → k < length loaders → loader_place places k < length commands → AreLeft loaders places [] → ⊥
 some_left loaders places k commands is less short h =
     let e = commands_there loaders k commands is less in
-    omega (arith, ap length (h k), ap length e, length-drop (place_of places k) (commands_at loaders k))
+    omega (arith, ap length (h k), ap length e, length-drop (loader_place places k) (commands_at loaders k))
 
 -- one more loader's commands were taken
-pub one_taken : (loaders : List (List ScriptCmd)) (places : List ℕ) (i : ℕ) (commands : List ScriptCmd) → commands ≡ get_or loaders i commands → i < length loaders → length commands ≤ place_of places i
-    → ((k : ℕ) → k < i → length (commands_at loaders k) ≤ place_of places k) → (k : ℕ) → k < i + 1 → length (commands_at loaders k) ≤ place_of places k
+pub one_taken : (loaders : List (List ScriptCmd)) (places : List ℕ) (i : ℕ) (commands : List ScriptCmd) → commands ≡ get_or loaders i commands → i < length loaders → length commands ≤ loader_place places i
+    → ((k : ℕ) → k < i → length (commands_at loaders k) ≤ loader_place places k) → (k : ℕ) → k < i + 1 → length (commands_at loaders k) ≤ loader_place places k
 one_taken loaders places i commands is less long before k below =
-    ⊎_elim (λ q. subst (λ n. length (commands_at loaders n) ≤ place_of places n) (sym q) (let e = commands_there loaders i commands is less in omega (arith, ap length e))) (λ n. before k (omega (arith, n))) (cases_eq k i)
+    ⊎_elim (λ q. subst (λ n. length (commands_at loaders n) ≤ loader_place places n) (sym q) (let e = commands_there loaders i commands is less in omega (arith, ap length e))) (λ n. before k (omega (arith, n))) (cases_eq k i)
 
 -- at the start each loader is at its first command
-pub begins_with_all : (loaders : List (List ScriptCmd)) (places : List ℕ) (journal : List Entry) → ((k : ℕ) → place_of places k ≡ 0) → ((loader : ℕ) → commands_in loader journal ≡ commands_at loaders loader) ↔ AreLeft loaders places journal
+pub begins_with_all : (loaders : List (List ScriptCmd)) (places : List ℕ) (journal : List Entry) → ((k : ℕ) → loader_place places k ≡ 0) → ((loader : ℕ) → commands_in loader journal ≡ commands_at loaders loader) ↔ AreLeft loaders places journal
 begins_with_all loaders places journal first = (λ h. λ k. h k ∙ ap (λ n. drop n (commands_at loaders k)) (sym (first k)), λ h. λ k. h k ∙ ap (λ n. drop n (commands_at loaders k)) (first k))

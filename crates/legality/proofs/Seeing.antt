@@ -5,12 +5,12 @@ use Rattle.std.proofs.lemmas.Option.{same_Some, slice_get_read, slice_get_within
 use Rattle.server_core.specs.ServerState.{ServerState}
 use Rattle.run_log.specs.declared.logs.Snapshot.{Snapshot}
 use Rattle.run_log.specs.Snapshots.{AreExports}
-use Rattle.legality.specs.Observers.{IsSnapshotOf, SeesMore, SeesOther}
+use Rattle.legality.specs.Observers.{IsSnapshotOfSweep, SeesMore, SeesOther}
 
 -- the snapshots from one place up to another are true ones of the state's generation
 pub record HasSeen (names : List (List ℕ)) (s : ServerState) (shots : List Snapshot) (from to : ℕ) : Type 0 where
   pub low : from ≤ to
-  pub each : (k : ℕ) (shot : Snapshot) → from ≤ k → k < to → slice_get shots k ≡ Some shot → IsSnapshotOf names s shot
+  pub each : (k : ℕ) (shot : Snapshot) → from ≤ k → k < to → slice_get shots k ≡ Some shot → IsSnapshotOfSweep names s shot
 
 some_if : (o : Option Snapshot) (P : Snapshot → Type 0) (shot : Snapshot) → o ≡ Some shot → P shot → IfSome o P
 some_if o P shot e p = subst (λ x. IfSome x P) (sym e) p
@@ -49,11 +49,11 @@ module _ (names : List (List ℕ)) (s : ServerState) (shots : List Snapshot) (fr
         each = λ k x low high at. by k x low high at (cases_lt k place);
       }
         where
-          by : (k : ℕ) (x : Snapshot) → from ≤ k → k < place + 1 → slice_get shots k ≡ Some x → (k < place) ⊎ (place ≤ k) → IsSnapshotOf names s x
+          by : (k : ℕ) (x : Snapshot) → from ≤ k → k < place + 1 → slice_get shots k ≡ Some x → (k < place) ⊎ (place ≤ k) → IsSnapshotOfSweep names s x
           by k x low high at (inl before) = so_far.each k x low before at
           by k x low high at (inr behind) =
               let same : place ≡ k = omega (arith, high, behind) in
-              subst (IsSnapshotOf names s) (same_Some shot x (sym read ∙ ap (slice_get shots) same ∙ at)) (record { generation = generation; exports = exports })
+              subst (IsSnapshotOfSweep names s) (same_Some shot x (sym read ∙ ap (slice_get shots) same ∙ at)) (record { generation = generation; exports = exports })
 
       -- the next one is not
       pub sees_other : shot.generation ≡ s.generation → (AreExports names s shot.exports → ⊥) → SeesOther names s shots

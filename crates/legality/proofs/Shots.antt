@@ -11,7 +11,7 @@ use Rattle.run_log.specs.Journal.{state_at}
 use Rattle.run_log.specs.Legal.{AreRising, SnapshotsTrue}
 use Rattle.run_log.specs.Snapshots.{AreExports}
 use Rattle.run_log.proofs.ListPlaces.{get_within}
-use Rattle.legality.specs.Observers.{AllSee, IsSnapshotOf, OneErrs, SeesMore}
+use Rattle.legality.specs.Observers.{AllSee, IsSnapshotOfSweep, OneErrs, SeesMore}
 use Rattle.legality.specs.Sweeps.{AreSeen, IsSeen, IsTrueShot}
 use Rattle.legality.proofs.Answers.{if_some_at}
 use Rattle.legality.proofs.Ends.{all_at}
@@ -41,7 +41,7 @@ module _ (s : Script) (log : RunLog) (server : ServerState) (first : state_at s.
   states = state_at s.modules empty_state log.journal
 
   -- a true snapshot of the server's generation
-  shot_true : (shot : Snapshot) → IsSnapshotOf s.names server shot → IsTrueShot s log shot
+  shot_true : (shot : Snapshot) → IsSnapshotOfSweep s.names server shot → IsTrueShot s log shot
   shot_true shot h =
       subst (λ g. AreExports s.names (states g) shot.exports) (sym h.generation) (subst (λ (x : ServerState). AreExports s.names x shot.exports) (sym first) h.exports)
 

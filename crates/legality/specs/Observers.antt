@@ -6,7 +6,7 @@ use Rattle.run_log.specs.declared.logs.Snapshot.{Snapshot}
 use Rattle.run_log.specs.Snapshots.{AreExports}
 
 -- a snapshot is one of the state's generation, and of its exports
-pub record IsSnapshotOf (names : List (List ℕ)) (s : ServerState) (shot : Snapshot) : Type 0 where
+pub record IsSnapshotOfSweep (names : List (List ℕ)) (s : ServerState) (shot : Snapshot) : Type 0 where
   pub generation : shot.generation ≡ s.generation
   pub exports : AreExports names s shot.exports
 
@@ -14,7 +14,7 @@ pub record IsSnapshotOf (names : List (List ℕ)) (s : ServerState) (shot : Snap
 pub record SeesMore (names : List (List ℕ)) (s : ServerState) (shots : List Snapshot) (from to : ℕ) : Type 0 where
   pub low : from ≤ to
   pub within : to ≤ length shots
-  pub each : (k : ℕ) (shot : Snapshot) → from ≤ k → k < to → slice_get shots k ≡ Some shot → IsSnapshotOf names s shot
+  pub each : (k : ℕ) (shot : Snapshot) → from ≤ k → k < to → slice_get shots k ≡ Some shot → IsSnapshotOfSweep names s shot
   pub behind : IfSome (slice_get shots to) (λ shot. shot.generation ≢ s.generation)
 
 -- some snapshot of the state's generation is not of its exports

@@ -7,9 +7,9 @@ use Rattle.run_log.specs.declared.logs.Entry.{Entry}
 use Rattle.run_log.specs.Legal.{commands_in}
 
 -- how many commands of a loader were ended
-abbrev pub place_of : List ℕ → ℕ → ℕ
-place_of places loader = slice_index places loader
+abbrev pub loader_place : List ℕ → ℕ → ℕ
+loader_place places loader = slice_index places loader
 
 -- the entries end just the commands that are left of each loader, in order
 abbrev pub AreLeft : List (List ScriptCmd) → List ℕ → List Entry → Type 0
-AreLeft loaders places journal = (loader : ℕ) → commands_in loader journal ≡ drop (place_of places loader) (commands_at loaders loader)
+AreLeft loaders places journal = (loader : ℕ) → commands_in loader journal ≡ drop (loader_place places loader) (commands_at loaders loader)

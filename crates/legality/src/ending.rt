@@ -43,7 +43,7 @@ fn is_none_waiting(sweep: &Sweep) -> bool
 fn is_all_released(sweep: &Sweep) -> bool
     ensures { IsTrue result ↔ (sweep.now.server.retired ≡ []) }
 {
-    sweep.server.retired_areas().is_empty()
+    sweep.server.oldest_retired().is_none()
 }
 
 /// Whether each process has ended.

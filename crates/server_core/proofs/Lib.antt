@@ -3,12 +3,14 @@ pub mod Changes
 pub mod CommandLaws
 pub mod CurrentCode
 pub mod EmptyState
+pub mod Gaps
 pub mod GivenTexts
 pub mod Growing
 pub mod KeyChanges
 pub mod KeyEntries
 pub mod Loads
 pub mod MovedMaps
+pub mod Retiring
 pub mod SoundParts
 pub mod Soundness
 pub mod Traced

@@ -1,10 +1,11 @@
 -- What may come between the decision of a change and its making: an area that is released leaves every other change fit.
-use Rattle.std.proofs.Common.{◌≡◌, ℕ, ◌≤◌, Bool, true, false, nat_eq, not, List, length, Vec, refl, arith}
+use Rattle.std.proofs.Common.{◌≡◌, ℕ, ◌≤◌, Bool, true, false, nat_eq, not, List, length, refl, arith}
 use Rattle.std.proofs.lemmas.List.Filters.{length-filter_both}
 use Rattle.term_core.specs.PlainTerm.{PlainTerm}
 use Rattle.mod_core.specs.declared.code.Module.{Module}
 use Rattle.server_core.specs.declared.change.Change.{Change}
 use Rattle.server_core.specs.declared.change.Change.TheVariants.{Nothing, BringIn, MakeOld, DropOld, Condemn, HoldWord, HoldArea, Forget, SetTrace, ClearTrace, GiveBack}
+use Rattle.server_core.specs.declared.slots.RetiredRoom.{RetiredRoom}
 use Rattle.server_core.specs.ServerState.{ServerState}
 use Rattle.server_core.specs.CommandTable.{with_released, without_number}
 use Rattle.server_core.specs.Decided.{CanBeDoomed, CanBeOld, CanGo, CanHold, Fits, FitsIn, IsNoRelease, RetiredFits}
@@ -16,8 +17,11 @@ twice false = refl
 fewer : (n : ℕ) (xs : List ℕ) → length (without_number n xs) ≤ length xs
 fewer n xs = omega (arith, length-filter_both (λ k. not (nat_eq k n)) (λ k. nat_eq k n) (λ k. twice (nat_eq k n)) xs)
 
-retired_fits : {Z : Type 0} (s : ServerState) (n : ℕ) (block : Vec ℕ Z) → RetiredFits s block → RetiredFits (with_released s n) block
-retired_fits s n block fits = record { empty = fits.empty; room = omega (arith, fits.room, fewer n s.retired) }
+retired_fits : (s : ServerState) (n : ℕ) (room : RetiredRoom) → RetiredFits s room → RetiredFits (with_released s n) room
+retired_fits s n room fits = record {
+  slots = record { empty = fits.slots.empty; room = omega (arith, fits.slots.room, fewer n s.retired) };
+  places = fits.places;
+}
 
 fits_in : (s : ServerState) (n : ℕ) (modules : List Module) → FitsIn s modules → FitsIn (with_released s n) modules
 fits_in s n modules fits = record { sound = fits.sound; purged = fits.purged; once = fits.once; rest = fits.rest; places = fits.places }

@@ -11,9 +11,11 @@ use Rattle.server_core.specs.declared.command.TheConstants.{MOST_INSTANCES}
 use Rattle.server_core.specs.declared.command.Reply.TheVariants as replies
 use Rattle.server_core.specs.declared.areas.Area.{Area}
 use Rattle.server_core.specs.declared.change.Change.{Change}
+use Rattle.server_core.specs.declared.slots.RetiredRoom.{RetiredRoom}
 use Rattle.server_core.specs.declared.change.Change.TheVariants.{Nothing, BringIn, MakeOld, DropOld, Condemn, HoldWord, HoldArea, Forget, SetTrace, ClearTrace, GiveBack}
 use Rattle.server_core.specs.ServerState.{ServerState, IsShortTerm, current_of, entry_of, is_retired, live_count, old_of}
 use Rattle.server_core.specs.CommandTable.{Outcome, answered, published, unchanged, with_all, with_complex, with_deleted, with_erased, with_immediate, with_purged, with_released, with_trace, without_number}
+use Rattle.server_core.specs.RetiredSlots.{HasRetiredRoom}
 use Rattle.server_core.specs.Rooms.{HasPlace, HasPlaces, HasRoom, IsBlock}
 
 -- the old code with this serial is to go: from now on a process that stands in it ends
@@ -21,18 +23,18 @@ abbrev pub with_doomed : ServerState → ℕ → ServerState
 with_doomed s serial = record s { doomed = s.doomed ++ serial ∷ [] }
 
 -- what the change makes of a state, and what it answers
-abbrev pub made : ServerState → Change → Outcome
-made s (Nothing reply) = unchanged s reply
-made s (BringIn generation modules areas versions) = published (with_all s modules.items) replies.Ok
-made s (MakeOld generation name) = published (with_deleted s name.0) replies.True
-made s (DropOld generation name serial says retired) = published (with_purged s name.0 serial) (answered says)
-made s (Condemn generation serial) = published (with_doomed s serial) replies.Ok
-made s (HoldWord generation key term keys retired) = published (with_immediate s key.0 (plain term)) replies.Ok
-made s (HoldArea generation key term stored areas keys retired) = published (with_complex s key.0 (plain term)) replies.Ok
-made s (Forget generation key retired) = published (with_erased s key.0) replies.True
-made s (SetTrace generation at traced) = published (with_trace s (entry_of at) true) replies.True
-made s (ClearTrace generation at) = published (with_trace s (entry_of at) false) replies.True
-made s (GiveBack serial released) = unchanged (with_released s serial) replies.Ok
+abbrev pub change_made : ServerState → Change → Outcome
+change_made s (Nothing reply) = unchanged s reply
+change_made s (BringIn generation modules areas versions) = published (with_all s modules.items) replies.Ok
+change_made s (MakeOld generation name) = published (with_deleted s name.0) replies.True
+change_made s (DropOld generation name serial says retired) = published (with_purged s name.0 serial) (answered says)
+change_made s (Condemn generation serial) = published (with_doomed s serial) replies.Ok
+change_made s (HoldWord generation key term keys retired) = published (with_immediate s key.0 (plain term)) replies.Ok
+change_made s (HoldArea generation key term stored areas keys retired) = published (with_complex s key.0 (plain term)) replies.Ok
+change_made s (Forget generation key retired) = published (with_erased s key.0) replies.True
+change_made s (SetTrace generation at traced) = published (with_trace s (entry_of at) true) replies.True
+change_made s (ClearTrace generation at) = published (with_trace s (entry_of at) false) replies.True
+change_made s (GiveBack serial released) = unchanged (with_released s serial) replies.Ok
 
 -- the generation that a change makes is the next one
 abbrev pub IsNext : ServerState → ℕ → Type 0
@@ -71,9 +73,9 @@ pub record CanHold (s : ServerState) (key : ℕ) (term : PlainTerm) : Type 0 whe
 abbrev pub AreasFit : {Z : Type 0} → ServerState → ℕ → Option (Vec Area Z) → Type 0
 AreasFit s more block = (before : ℕ) → before + 1 ≡ s.next_serial → HasRoom before more block
 
--- there is room for a retired area more
-abbrev pub RetiredFits : {Z : Type 0} → ServerState → Vec ℕ Z → Type 0
-RetiredFits s block = IsBlock (length s.retired + 1) block
+-- there is room for a retired area more, whichever of those that came in it is
+abbrev pub RetiredFits : ServerState → RetiredRoom → Type 0
+RetiredFits s room = HasRetiredRoom (length s.retired) s.next_serial room
 
 -- what a change needs of the state in which it is made: it is as far as when the change was decided, and what the change is about still stands
 abbrev pub Fits : ServerState → Change → Type 0

@@ -6,5 +6,6 @@ pub mod VersionTable
 pub mod KeyTable
 pub mod Areas
 pub mod RoomAhead
+pub mod RetiredSlots
 pub mod Decided
 pub mod Tables

@@ -18,11 +18,6 @@ pub record KeyRooms : Type 0 where
   pub persistents : List Persistent
   pub room : ℕ
 
--- serials, the newest last, and for how many more there is room
-pub record SerialRooms : Type 0 where
-  pub serials : List ℕ
-  pub room : ℕ
-
 -- the instance with a serial is the current code of a module, and what was current is old
 abbrev pub with_current : List Versions → ℕ → ℕ → List Versions
 with_current vs name serial = with_versions vs (record { name = name; current = Some serial; old = current_among vs name })

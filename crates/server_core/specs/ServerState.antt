@@ -169,6 +169,11 @@ dispatch_of s to =
 abbrev pub is_serial_in : List ℕ → ℕ → Bool
 is_serial_in serials serial = list_any (λ n. n == serial) serials
 
+-- the serial that stands behind the first place of this one, if it is among these and one does
+abbrev pub serial_behind : List ℕ → ℕ → Option ℕ
+serial_behind [] serial = None
+serial_behind (n ∷ ns) serial = if n == serial then slice_get ns 0 else serial_behind ns serial
+
 -- whether two functions of instances are one
 abbrev pub is_same_entry : Entry → Entry → Bool
 is_same_entry e other = e.serial == other.serial && e.function == other.function

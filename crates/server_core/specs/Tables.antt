@@ -17,7 +17,7 @@ state_of s =
       keys = s.keys.persistents;
       traced = s.traced;
       doomed = option_to_list s.doomed;
-      retired = s.retired.serials;
+      retired = s.retired;
       released = s.released;
     }
 

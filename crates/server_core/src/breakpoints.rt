@@ -1,6 +1,6 @@
 ghost use Rattle.std.specs.Prelude.{◌≡◌, ◌↔◌, ◌+◌, IfOk, IsErrOf, None, Some, false, length, option_map, true};
 ghost use Rattle.server_core.specs.CommandTable.{published, trace_of, while_none_doomed, with_trace};
-ghost use Rattle.server_core.specs.Decided.{Fits, IsNext, made};
+ghost use Rattle.server_core.specs.Decided.{Fits, IsNext, change_made};
 ghost use Rattle.server_core.specs.Rooms.{IsBlock};
 ghost use Rattle.server_core.specs.ServerState.{IsSound, entry_of, traceable_of};
 
@@ -15,7 +15,7 @@ use term_core::{AreaRef, CodeRef, Mfa, NoMemory};
 impl Server {
     /// A breakpoint in the current code is to be set, or taken away.
     pub(crate) fn decide_trace(&self, target: Mfa, on: bool) -> Result<Change, ApplyFault>
-        ensures ok { IfOk result (λ change. while_none_doomed self.now (Some (trace_of self.now on (traceable_of self.now target))) ≡ Some (made self.now change)) }
+        ensures ok { IfOk result (λ change. while_none_doomed self.now (Some (trace_of self.now on (traceable_of self.now target))) ≡ Some (change_made self.now change)) }
         ensures fits { IfOk result (Fits self.now) }
         ensures not_enabled { IsErrOf result ApplyFault.NotEnabled ↔ (while_none_doomed self.now (Some (trace_of self.now on (traceable_of self.now target))) ≡ None) }
     {
@@ -48,7 +48,7 @@ impl Server {
 
     /// The room for a breakpoint that is to be set, or none where it is to be taken away.
     fn decide_change(&self, at: CodeRef, on: bool) -> Result<Change, NoMemory>
-        ensures ok { IfOk result (λ change. published (with_trace self.now (entry_of at) on) Reply.True ≡ made self.now change) }
+        ensures ok { IfOk result (λ change. published (with_trace self.now (entry_of at) on) Reply.True ≡ change_made self.now change) }
         ensures fits { IfOk result (Fits self.now) }
     {
         let generation = next_generation(self.generation)?;

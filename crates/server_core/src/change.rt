@@ -2,6 +2,7 @@ use crate::areas::Area;
 use crate::command::Reply;
 use crate::instance::LoadedModule;
 use crate::keys::Held;
+use crate::slots::RetiredRoom;
 use crate::stored_term::StoredTerm;
 use crate::versions::Serials;
 use indexmap::IndexMap;
@@ -32,7 +33,7 @@ pub enum Change {
         module: AtomId,
         serial: u64,
         yes: bool,
-        retired: Vec<u64>,
+        retired: RetiredRoom,
     },
     /// The old code with this serial is to go.
     Condemn {
@@ -45,7 +46,7 @@ pub enum Change {
         key: AtomId,
         term: Term,
         keys: IndexMap<u32, Held>,
-        retired: Vec<u64>,
+        retired: RetiredRoom,
     },
     /// The key holds a complex term, with the words of its area.
     HoldArea {
@@ -55,13 +56,13 @@ pub enum Change {
         stored: StoredTerm,
         areas: Option<Vec<Area>>,
         keys: IndexMap<u32, Held>,
-        retired: Vec<u64>,
+        retired: RetiredRoom,
     },
     /// The key holds nothing.
     Forget {
         generation: u64,
         key: AtomId,
-        retired: Vec<u64>,
+        retired: RetiredRoom,
     },
     /// A breakpoint is set.
     SetTrace {

@@ -1,7 +1,7 @@
 ghost use Rattle.std.specs.Prelude.{◌≡◌, ◌↔◌, ◌+◌, ◌<◌, ◌^◌, ◌≤◌, IfOk, IsErrOf, None, Some, [], All, length, map};
 ghost use Rattle.mod_core.specs.Module.{IsModule};
 ghost use Rattle.server_core.specs.CommandTable.{load_of, not_purged, published, while_none_doomed, with_all};
-ghost use Rattle.server_core.specs.Decided.{AreasFit, FitsIn, Fits, IsNext, made};
+ghost use Rattle.server_core.specs.Decided.{AreasFit, FitsIn, Fits, IsNext, change_made};
 ghost use Rattle.server_core.specs.Rooms.{HasPlaces, with_currents};
 ghost use Rattle.server_core.specs.ServerState.{IsSound, live_count};
 
@@ -26,7 +26,7 @@ impl Server {
         texts: &ModuleList,
     ) -> Result<Change, ApplyFault>
         requires { All IsModule texts.now }
-        ensures ok { IfOk result (λ change. while_none_doomed self.now (load_of texts.now self.now refs.now) ≡ Some (made self.now change)) }
+        ensures ok { IfOk result (λ change. while_none_doomed self.now (load_of texts.now self.now refs.now) ≡ Some (change_made self.now change)) }
         ensures fits { IfOk result (Fits self.now) }
         ensures not_enabled { IsErrOf result ApplyFault.NotEnabled ↔ (while_none_doomed self.now (load_of texts.now self.now refs.now) ≡ None) }
     {
@@ -40,7 +40,7 @@ impl Server {
     fn decide_at_rest(&self, refs: &[ModRef], texts: &ModuleList) -> Result<Change, ApplyFault>
         requires texts { All IsModule texts.now }
         requires rest { self.now.doomed ≡ [] }
-        ensures ok { IfOk result (λ change. load_of texts.now self.now refs.now ≡ Some (made self.now change)) }
+        ensures ok { IfOk result (λ change. load_of texts.now self.now refs.now ≡ Some (change_made self.now change)) }
         ensures fits { IfOk result (Fits self.now) }
         ensures not_enabled { IsErrOf result ApplyFault.NotEnabled ↔ (load_of texts.now self.now refs.now ≡ None) }
     {
@@ -77,7 +77,7 @@ impl Server {
     /// The room for modules that are to come in.
     fn decide_bring_in(&self, modules: Vec<LoadedModule>) -> Result<Change, NoMemory>
         requires { FitsIn self.now modules.items }
-        ensures ok { IfOk result (λ change. published (with_all self.now modules.items) Reply.Ok ≡ made self.now change) }
+        ensures ok { IfOk result (λ change. published (with_all self.now modules.items) Reply.Ok ≡ change_made self.now change) }
         ensures fits { IfOk result (Fits self.now) }
     {
         let generation = next_generation(self.generation)?;

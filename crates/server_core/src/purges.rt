@@ -1,6 +1,6 @@
 ghost use Rattle.std.specs.Prelude.{◌≡◌, ◌↔◌, IfOk, IsErrOf, None, Some, is_some};
 ghost use Rattle.server_core.specs.CommandTable.{answered, delete_of, doom_of, published, purge_of, soft_purge_of, unchanged, while_none_doomed, with_deleted, with_purged};
-ghost use Rattle.server_core.specs.Decided.{CanBeDoomed, CanBeOld, CanGo, Fits, IsNext, RetiredFits, made, with_doomed};
+ghost use Rattle.server_core.specs.Decided.{CanBeDoomed, CanBeOld, CanGo, Fits, IsNext, RetiredFits, change_made, with_doomed};
 ghost use Rattle.server_core.specs.ServerState.{IsSound, old_of};
 
 use crate::answers::{answered, next_generation, published};
@@ -8,12 +8,13 @@ use crate::change::Change;
 use crate::command::{Applied, Linger, Reply};
 use crate::fault::ApplyFault;
 use crate::server::Server;
+use crate::slots::RetiredRoom;
 use term_core::{AtomId, NoMemory};
 
 impl Server {
     /// The module's current code is to become old.
     pub(crate) fn decide_delete(&self, module: AtomId) -> Result<Change, ApplyFault>
-        ensures ok { IfOk result (λ change. while_none_doomed self.now (Some (delete_of self.now «module».0)) ≡ Some (made self.now change)) }
+        ensures ok { IfOk result (λ change. while_none_doomed self.now (Some (delete_of self.now «module».0)) ≡ Some (change_made self.now change)) }
         ensures fits { IfOk result (Fits self.now) }
         ensures not_enabled { IsErrOf result ApplyFault.NotEnabled ↔ (while_none_doomed self.now (Some (delete_of self.now «module».0)) ≡ None) }
     {
@@ -45,7 +46,7 @@ impl Server {
         module: AtomId,
         lingers: Option<Linger>,
     ) -> Result<Change, ApplyFault>
-        ensures ok { IfOk result (λ change. while_none_doomed self.now (soft_purge_of self.now «module».0 lingers (old_of self.now «module».0)) ≡ Some (made self.now change)) }
+        ensures ok { IfOk result (λ change. while_none_doomed self.now (soft_purge_of self.now «module».0 lingers (old_of self.now «module».0)) ≡ Some (change_made self.now change)) }
         ensures fits { IfOk result (Fits self.now) }
         ensures not_enabled { IsErrOf result ApplyFault.NotEnabled ↔ (while_none_doomed self.now (soft_purge_of self.now «module».0 lingers (old_of self.now «module».0)) ≡ None) }
     {
@@ -62,7 +63,7 @@ impl Server {
 
     /// The module's old code is to be doomed: then a process that stands in it ends.
     pub(crate) fn decide_doom(&self, module: AtomId) -> Result<Change, ApplyFault>
-        ensures ok { IfOk result (λ change. while_none_doomed self.now (doom_of self.now (old_of self.now «module».0)) ≡ Some (made self.now change)) }
+        ensures ok { IfOk result (λ change. while_none_doomed self.now (doom_of self.now (old_of self.now «module».0)) ≡ Some (change_made self.now change)) }
         ensures fits { IfOk result (Fits self.now) }
         ensures not_enabled { IsErrOf result ApplyFault.NotEnabled ↔ (while_none_doomed self.now (doom_of self.now (old_of self.now «module».0)) ≡ None) }
     {
@@ -90,7 +91,7 @@ impl Server {
 
     /// The module's doomed code is to go. A process was killed by it, or none.
     pub(crate) fn decide_purge(&self, module: AtomId, killed: bool) -> Result<Change, ApplyFault>
-        ensures ok { IfOk result (λ change. purge_of self.now «module».0 killed (old_of self.now «module».0) ≡ Some (made self.now change)) }
+        ensures ok { IfOk result (λ change. purge_of self.now «module».0 killed (old_of self.now «module».0) ≡ Some (change_made self.now change)) }
         ensures fits { IfOk result (Fits self.now) }
         ensures not_enabled { IsErrOf result ApplyFault.NotEnabled ↔ (purge_of self.now «module».0 killed (old_of self.now «module».0) ≡ None) }
     {
@@ -114,11 +115,11 @@ impl Server {
     /// The room for old code that is to go.
     fn decide_drop(&self, module: AtomId, serial: u64, yes: bool) -> Result<Change, NoMemory>
         requires { CanGo self.now «module».0 serial }
-        ensures ok { IfOk result (λ change. published (with_purged self.now «module».0 serial) (answered yes) ≡ made self.now change) }
+        ensures ok { IfOk result (λ change. published (with_purged self.now «module».0 serial) (answered yes) ≡ change_made self.now change) }
         ensures fits { IfOk result (Fits self.now) }
     {
         let generation = next_generation(self.generation)?;
-        let retired = self.retired.room(self.alloc)?;
+        let retired = self.retired.room(self.alloc, self.areas.next_serial())?;
         Ok(Change::DropOld {
             generation,
             module,
@@ -136,7 +137,7 @@ impl Server {
         module: AtomId,
         serial: u64,
         yes: bool,
-        retired: Vec<u64>,
+        retired: RetiredRoom,
     ) -> Applied
         requires next { IsNext self.old generation }
         requires code { CanGo self.old «module».0 serial }
@@ -144,8 +145,7 @@ impl Server {
         ensures value { published (with_purged self.old «module».0 serial) (answered yes) ≡ record { state = self.new; answer = result } }
         ensures sound { IsSound self.new }
     {
-        self.retired.make_room(retired);
-        self.retired.push(serial);
+        self.retired.push(serial, retired);
         self.versions.drop_old(module);
         self.traced.forget(serial);
         self.doomed = None;
@@ -155,7 +155,7 @@ impl Server {
 
     /// Whether the module has old code.
     pub(crate) fn decide_check_old(&self, module: AtomId) -> Change
-        ensures value { unchanged self.now (answered (is_some (old_of self.now «module».0))) ≡ made self.now result }
+        ensures value { unchanged self.now (answered (is_some (old_of self.now «module».0))) ≡ change_made self.now result }
         ensures fits { Fits self.now result }
     {
         Change::Nothing(answered(self.old(module).is_some()))

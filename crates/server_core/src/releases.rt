@@ -1,6 +1,6 @@
 ghost use Rattle.std.specs.Prelude.{◌≡◌, ◌↔◌, IfOk, IsErrOf, IsTrue, None, Some, length};
 ghost use Rattle.server_core.specs.CommandTable.{release_of, unchanged, with_released};
-ghost use Rattle.server_core.specs.Decided.{Fits, made};
+ghost use Rattle.server_core.specs.Decided.{Fits, change_made};
 ghost use Rattle.server_core.specs.Rooms.{HasRoom};
 ghost use Rattle.server_core.specs.ServerState.{IsSound, is_retired};
 
@@ -13,7 +13,7 @@ use crate::server::Server;
 impl Server {
     /// The retired area with this serial is to be given back.
     pub(crate) fn decide_release(&self, serial: u64) -> Result<Change, ApplyFault>
-        ensures ok { IfOk result (λ change. release_of self.now serial ≡ Some (made self.now change)) }
+        ensures ok { IfOk result (λ change. release_of self.now serial ≡ Some (change_made self.now change)) }
         ensures fits { IfOk result (Fits self.now) }
         ensures not_enabled { IsErrOf result ApplyFault.NotEnabled ↔ (release_of self.now serial ≡ None) }
     {

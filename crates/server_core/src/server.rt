@@ -1,9 +1,9 @@
-ghost use Rattle.std.specs.Prelude.{◌≡◌, ◌↔◌, [], IfOk, IsErrOf, None, OnErr, Some, length, nat_lt, option_map};
+ghost use Rattle.std.specs.Prelude.{◌≡◌, ◌↔◌, [], IfOk, IfSome, IsErrOf, IsTrue, None, OnErr, Some, length, nat_lt, option_map, slice_get};
 ghost use Rattle.std.specs.Bool.{OnFalse};
 ghost use Rattle.std.specs.Option.{option_to_list};
 ghost use Rattle.server_core.specs.CommandTable.{AreTexts, IsOfText, apply_of};
-ghost use Rattle.server_core.specs.Decided.{Fits, made};
-ghost use Rattle.server_core.specs.ServerState.{IsSound, current_of, dispatch_of, empty_state, entry_of, found_as, is_doomed, is_retired, is_traced, key_found, old_of, word_of};
+ghost use Rattle.server_core.specs.Decided.{Fits, change_made};
+ghost use Rattle.server_core.specs.ServerState.{IsSound, current_of, dispatch_of, empty_state, entry_of, found_as, is_doomed, is_retired, is_traced, key_found, old_of, serial_behind, word_of};
 
 use crate::answers::unpublished;
 use crate::areas::AreaTable;
@@ -12,7 +12,8 @@ use crate::command::{Applied, Cmd, Reply};
 use crate::fault::ApplyFault;
 use crate::functions::export_of;
 use crate::keys::KeyTable;
-use crate::serials::{SerialHistory, SerialList};
+use crate::retired::RetiredAreas;
+use crate::serials::SerialHistory;
 use crate::traces::TraceTable;
 use crate::versions::VersionTable;
 use mod_core::ModuleList;
@@ -31,7 +32,7 @@ pub struct Server {
     pub(crate) traced: TraceTable,
     /// The old instance that is being purged.
     pub(crate) doomed: Option<u64>,
-    pub(crate) retired: SerialList,
+    pub(crate) retired: RetiredAreas,
     pub(crate) released: SerialHistory,
 }
 
@@ -65,7 +66,7 @@ impl Server {
             keys: KeyTable::new(alloc),
             traced: TraceTable::new(alloc),
             doomed: None,
-            retired: SerialList::new(alloc),
+            retired: RetiredAreas::new(alloc),
             released: SerialHistory::new(alloc),
         })
     }
@@ -90,7 +91,7 @@ impl Server {
     pub fn decide(&self, cmd: &Cmd, texts: &ModuleList) -> Result<Change, ApplyFault>
         requires given { AreTexts texts.now }
         requires put { IsOfText cmd.now }
-        ensures ok { IfOk result (λ change. apply_of texts.now self.now cmd.now ≡ Some (made self.now change)) }
+        ensures ok { IfOk result (λ change. apply_of texts.now self.now cmd.now ≡ Some (change_made self.now change)) }
         ensures fits { IfOk result (Fits self.now) }
         ensures not_enabled { IsErrOf result ApplyFault.NotEnabled ↔ (apply_of texts.now self.now cmd.now ≡ None) }
     {
@@ -114,7 +115,7 @@ impl Server {
     /// Since the decision areas may have been released: no change but a release depends on what is retired.
     pub fn make(&mut self, change: Change) -> Applied
         requires { Fits self.old change }
-        ensures value { made self.old change ≡ record { state = self.new; answer = result } }
+        ensures value { change_made self.old change ≡ record { state = self.new; answer = result } }
         ensures sound { IsSound self.new }
     {
         match change {
@@ -247,12 +248,23 @@ impl Server {
         self.retired.holds(serial)
     }
 
-    /// The serials of the areas that were dropped and not released, in the order in which they were dropped.
-    pub fn retired_areas(&self) -> &[u64]
-        ensures value { result.now ≡ self.now.retired }
+    /// The serial of the area that was dropped first, of those that were not released.
+    pub fn oldest_retired(&self) -> Option<u64>
+        ensures value { result ≡ slice_get self.now.retired 0 }
+        ensures waits { IfSome result (λ serial. IsTrue (is_retired self.now serial)) }
+        ensures none { result ≡ None → self.now.retired ≡ [] }
         ensures sound { IsSound self.now }
     {
-        self.retired.as_slice()
+        self.retired.oldest()
+    }
+
+    /// The serial of the area that was dropped next behind this one, of those that were not released. None where this
+    /// one is none of them, or the newest.
+    pub fn retired_behind(&self, serial: u64) -> Option<u64>
+        ensures value { result ≡ serial_behind self.now.retired serial }
+        ensures waits { IfSome result (λ next. IsTrue (is_retired self.now next)) }
+    {
+        self.retired.behind(serial)
     }
 
     /// Whether an instance is being purged.

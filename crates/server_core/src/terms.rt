@@ -2,7 +2,7 @@ ghost use Rattle.std.specs.Prelude.{◌≡◌, ◌↔◌, ◌+◌, IfOk, IsErrOf
 ghost use Rattle.term_core.specs.Image.{is_immediate};
 ghost use Rattle.term_core.specs.Plain.{plain};
 ghost use Rattle.server_core.specs.CommandTable.{erase_of, published, put_of, while_none_doomed, with_complex, with_erased, with_immediate, with_put};
-ghost use Rattle.server_core.specs.Decided.{AreasFit, CanHold, Fits, IsNext, RetiredFits, made};
+ghost use Rattle.server_core.specs.Decided.{AreasFit, CanHold, Fits, IsNext, RetiredFits, change_made};
 ghost use Rattle.server_core.specs.Rooms.{HasPlaces};
 ghost use Rattle.server_core.specs.ServerState.{IsShortTerm, IsSound, persistent_of};
 
@@ -13,6 +13,7 @@ use crate::command::{Applied, Limit, MOST_KEYS, MOST_TERMS, Reply};
 use crate::fault::ApplyFault;
 use crate::keys::Held;
 use crate::server::Server;
+use crate::slots::RetiredRoom;
 use crate::stored_term::StoredTerm;
 use indexmap::IndexMap;
 use term_core::{AtomId, NoMemory, Term};
@@ -21,7 +22,7 @@ impl Server {
     /// The key is to hold the term, unless it holds an equal one or there are too many.
     pub(crate) fn decide_put(&self, key: AtomId, term: &Term) -> Result<Change, ApplyFault>
         requires { IsShortTerm (plain term.now) }
-        ensures ok { IfOk result (λ change. while_none_doomed self.now (Some (put_of self.now key.0 (plain term.now))) ≡ Some (made self.now change)) }
+        ensures ok { IfOk result (λ change. while_none_doomed self.now (Some (put_of self.now key.0 (plain term.now))) ≡ Some (change_made self.now change)) }
         ensures fits { IfOk result (Fits self.now) }
         ensures not_enabled { IsErrOf result ApplyFault.NotEnabled ↔ (while_none_doomed self.now (Some (put_of self.now key.0 (plain term.now))) ≡ None) }
     {
@@ -43,7 +44,7 @@ impl Server {
     /// The memory for a term that a key is to hold.
     fn decide_hold(&self, key: AtomId, term: &Term) -> Result<Change, NoMemory>
         requires { CanHold self.now key.0 (plain term.now) }
-        ensures ok { IfOk result (λ change. published (with_put self.now key.0 (plain term.now)) Reply.Ok ≡ made self.now change) }
+        ensures ok { IfOk result (λ change. published (with_put self.now key.0 (plain term.now)) Reply.Ok ≡ change_made self.now change) }
         ensures fits { IfOk result (Fits self.now) }
     {
         if term.is_immediate() {
@@ -57,13 +58,13 @@ impl Server {
     fn decide_word(&self, key: AtomId, term: &Term) -> Result<Change, NoMemory>
         requires place { CanHold self.now key.0 (plain term.now) }
         requires immediate { is_immediate (plain term.now) ≡ true }
-        ensures ok { IfOk result (λ change. published (with_immediate self.now key.0 (plain term.now)) Reply.Ok ≡ made self.now change) }
+        ensures ok { IfOk result (λ change. published (with_immediate self.now key.0 (plain term.now)) Reply.Ok ≡ change_made self.now change) }
         ensures fits { IfOk result (Fits self.now) }
     {
         let generation = next_generation(self.generation)?;
         let term = term.copy(self.alloc)?;
         let keys = self.keys.room(self.alloc)?;
-        let retired = self.retired.room(self.alloc)?;
+        let retired = self.retired.room(self.alloc, self.areas.next_serial())?;
         Ok(Change::HoldWord {
             generation,
             key,
@@ -77,7 +78,7 @@ impl Server {
     fn decide_area(&self, key: AtomId, term: &Term) -> Result<Change, NoMemory>
         requires place { CanHold self.now key.0 (plain term.now) }
         requires complex { is_immediate (plain term.now) ≡ false }
-        ensures ok { IfOk result (λ change. published (with_complex self.now key.0 (plain term.now)) Reply.Ok ≡ made self.now change) }
+        ensures ok { IfOk result (λ change. published (with_complex self.now key.0 (plain term.now)) Reply.Ok ≡ change_made self.now change) }
         ensures fits { IfOk result (Fits self.now) }
     {
         let generation = next_generation(self.generation)?;
@@ -85,7 +86,7 @@ impl Server {
         let term = term.copy(self.alloc)?;
         let areas = self.areas.room(self.alloc, 1)?;
         let keys = self.keys.room(self.alloc)?;
-        let retired = self.retired.room(self.alloc)?;
+        let retired = self.retired.room(self.alloc, self.areas.next_serial())?;
         Ok(Change::HoldArea {
             generation,
             key,
@@ -104,7 +105,7 @@ impl Server {
         key: AtomId,
         term: Term,
         keys: IndexMap<u32, Held>,
-        retired: Vec<u64>,
+        retired: RetiredRoom,
     ) -> Applied
         requires next { IsNext self.old generation }
         requires place { CanHold self.old key.0 (plain term) }
@@ -115,9 +116,8 @@ impl Server {
         ensures sound { IsSound self.new }
     {
         self.keys.make_room(keys);
-        self.retired.make_room(retired);
         let former = self.keys.put(key, term, None);
-        self.retired.push_some(former);
+        self.retired.push_some(former, retired);
         self.generation = generation;
         published(Reply::Ok, generation)
     }
@@ -131,7 +131,7 @@ impl Server {
         stored: StoredTerm,
         areas: Option<Vec<Area>>,
         keys: IndexMap<u32, Held>,
-        retired: Vec<u64>,
+        retired: RetiredRoom,
     ) -> Applied
         requires next { IsNext self.old generation }
         requires place { CanHold self.old key.0 (plain term) }
@@ -144,18 +144,17 @@ impl Server {
         ensures sound { IsSound self.new }
     {
         self.keys.make_room(keys);
-        self.retired.make_room(retired);
         let serial = self.areas.next_serial();
         self.areas.push(stored, areas);
         let former = self.keys.put(key, term, Some(serial));
-        self.retired.push_some(former);
+        self.retired.push_some(former, retired);
         self.generation = generation;
         published(Reply::Ok, generation)
     }
 
     /// The key is to hold nothing.
     pub(crate) fn decide_erase(&self, key: AtomId) -> Result<Change, ApplyFault>
-        ensures ok { IfOk result (λ change. while_none_doomed self.now (Some (erase_of self.now key.0 (persistent_of self.now key.0))) ≡ Some (made self.now change)) }
+        ensures ok { IfOk result (λ change. while_none_doomed self.now (Some (erase_of self.now key.0 (persistent_of self.now key.0))) ≡ Some (change_made self.now change)) }
         ensures fits { IfOk result (Fits self.now) }
         ensures not_enabled { IsErrOf result ApplyFault.NotEnabled ↔ (while_none_doomed self.now (Some (erase_of self.now key.0 (persistent_of self.now key.0))) ≡ None) }
     {
@@ -166,7 +165,7 @@ impl Server {
             return Ok(Change::Nothing(Reply::False));
         }
         let generation = next_generation(self.generation)?;
-        let retired = self.retired.room(self.alloc)?;
+        let retired = self.retired.room(self.alloc, self.areas.next_serial())?;
         Ok(Change::Forget {
             generation,
             key,
@@ -175,15 +174,14 @@ impl Server {
     }
 
     /// The key holds nothing, and the generation is published.
-    pub(crate) fn forget(&mut self, generation: u64, key: AtomId, retired: Vec<u64>) -> Applied
+    pub(crate) fn forget(&mut self, generation: u64, key: AtomId, retired: RetiredRoom) -> Applied
         requires next { IsNext self.old generation }
         requires retired { RetiredFits self.old retired }
         ensures value { published (with_erased self.old key.0) Reply.True ≡ record { state = self.new; answer = result } }
         ensures sound { IsSound self.new }
     {
-        self.retired.make_room(retired);
         let former = self.keys.erase(key);
-        self.retired.push_some(former);
+        self.retired.push_some(former, retired);
         self.generation = generation;
         published(Reply::True, generation)
     }

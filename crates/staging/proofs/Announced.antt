@@ -1,6 +1,6 @@
 -- Once the word of a change is stored, if it has one, the state that it leaves may be published over the blocks of the newest generation.
-use Rattle.std.proofs.Common.{◌≡◌, ℕ, ◌<◌, Bool, List, length, length-set, Option, Some, None, Global, refl, sym, ap, subst, ◌∙◌, arith}
-use Rattle.std.specs.Prelude.{IsSomeAnd, IfSome, Vec, slice_set}
+use Rattle.std.proofs.Common.{◌≡◌, ℕ, ◌<◌, Bool, List, length, length-set, Option, Some, None, refl, sym, ap, subst, ◌∙◌, arith}
+use Rattle.std.specs.Prelude.{IsSomeAnd, IfSome, slice_set}
 use Rattle.std.proofs.lemmas.Option.{none-some}
 use Rattle.atomic_table.specs.Seated.{TableId}
 use Rattle.term_core.specs.declared.area.AreaRef.{AreaRef}
@@ -10,7 +10,7 @@ use Rattle.area_core.specs.declared.table.Published.{Published}
 use Rattle.area_core.specs.Map.{doom_place}
 use Rattle.area_core.proofs.Places.{kind_doom, word_there}
 use Rattle.marks.specs.declared.kept.LookKind.TheVariants.{Frame}
-use Rattle.marks.specs.Steps.{with_dropped}
+use Rattle.marks.specs.Steps.{with_drop_kept}
 use Rattle.shared_words.specs.declared.opening.Opening.{Opening}
 use Rattle.shared_words.specs.declared.view.WriterView.{WriterView}
 use Rattle.shared_words.specs.Drops.{AgreesWithLooks, drop_of}
@@ -18,11 +18,12 @@ use Rattle.shared_words.specs.Publishing.{kept_left, with_next, with_word}
 use Rattle.shared_words.specs.Slots.{IsClear}
 use Rattle.progress_words.specs.Tokens.{IsWriterOf, written_by}
 use Rattle.progress_words.proofs.Rooted.{some_published}
+use Rattle.server_core.specs.declared.slots.RetiredRoom.{RetiredRoom}
 use Rattle.server_core.specs.declared.change.Change.{Change}
 use Rattle.server_core.specs.declared.change.Change.TheVariants.{Condemn, DropOld}
 use Rattle.server_core.specs.Decided.{CanBeDoomed, Fits}
 use Rattle.server_core.specs.ServerState.{IsSound, ServerState, code_of}
-use Rattle.change_laws.specs.Changes.{state_after}
+use Rattle.change_laws.specs.Changes.{changed_state}
 use Rattle.change_laws.specs.Uses.{IsUsed}
 use Rattle.code_index.specs.Laws as indices
 use Rattle.code_index.specs.Staging.{IsIndexOf}
@@ -120,7 +121,7 @@ announced names s change old new rest owned index terms patch said = record {
 
 -- a change is one of the two; it drops no instance
 abbrev NoDrop : Change → Type 0
-NoDrop change = (generation : ℕ) (name : AtomId) (serial : ℕ) (says : Bool) (retired : Vec ℕ Global) → change ≡ DropOld generation name serial says retired → ⊥
+NoDrop change = (generation : ℕ) (name : AtomId) (serial : ℕ) (says : Bool) (retired : RetiredRoom) → change ≡ DropOld generation name serial says retired → ⊥
 
 pub none_else : (change : Change) → IsRenewal change → ((generation serial : ℕ) → change ≡ Condemn generation serial → ⊥) → NoDrop change → ⊥
 none_else (Condemn generation serial) is other keeps = other generation serial refl
@@ -142,11 +143,11 @@ module _ (names : List Mfa) (s : ServerState) (table : TableId) (opening : Openi
   abbrev now : WriterView
   now = written_by t.writer
 
-  pub announced_renewed : (change : Change) → Fits s change → IsRenewal change → AreAnnounced names s change t → IsRenewed names s (state_after s change) t.pools now
+  pub announced_renewed : (change : Change) → Fits s change → IsRenewal change → AreAnnounced names s change t → IsRenewed names s (changed_state s change) t.pools now
   announced_renewed (Condemn generation serial) fits is a =
       let d : HasDoomed serial a.pools a.view now = a.announced.1 in
       let some : 0 < length a.view.published = subst (λ (ps : List Published). 0 < length ps) (ap (λ (w : WriterView). w.published) d.stored) (some_published table opening t.writer own.token) in
-      subst (λ (p : Areas). IsRenewed names s (state_after s (Condemn generation serial)) p now) (sym a.announced.0)
+      subst (λ (p : Areas). IsRenewed names s (changed_state s (Condemn generation serial)) p now) (sym a.announced.0)
       (doom_renewed names s generation serial a.pools a.view now sound fits a.stands a.owned (subst (λ (p : Areas). AreOf p now) a.announced.0 own.pools) some d)
   announced_renewed (DropOld generation name serial says retired) fits is a =
       let d : HasRetired serial a.pools a.view t.pools now = a.announced in
@@ -182,7 +183,7 @@ but_looks dropped before next after is = is ∙ same_but dropped before next ∙
 pub keeps_drop : (change : Change) (dropped : Option AreaRef) (before after : WriterView) (p : Published) → IsDropOf change dropped → after ≡ with_drop_of dropped before (with_next p before) → IfSome dropped (λ area. AgreesWithLooks before.looks (drop_of before Frame area.serial)) → KeepsDrop change before after
 keeps_drop (DropOld generation name serial says retired) None before after p is stored agree = absurd is
 keeps_drop (DropOld generation name serial says retired) (Some area) before after p is stored agree =
-    subst (λ (n : ℕ). (after.looks ≡ with_dropped before.looks (drop_of before Frame n)) × AgreesWithLooks before.looks (drop_of before Frame n)) is (ap (λ (w : WriterView). w.looks) stored, agree)
+    subst (λ (n : ℕ). (after.looks ≡ with_drop_kept before.looks (drop_of before Frame n)) × AgreesWithLooks before.looks (drop_of before Frame n)) is (ap (λ (w : WriterView). w.looks) stored, agree)
 keeps_drop change None before after p is stored agree = ap (λ (w : WriterView). w.looks) stored
 keeps_drop change (Some area) before after p is stored agree = absurd (none-some area (sym is))
 

@@ -11,7 +11,7 @@ use Rattle.area_core.specs.Generations.{has_serial}
 use Rattle.area_core.specs.Map.{doom_place, retire_place}
 use Rattle.area_core.specs.Step.{opening_published}
 use Rattle.shared_words.specs.declared.view.WriterView.{WriterView}
-use Rattle.shared_words.specs.Views.{newest, published_at}
+use Rattle.shared_words.specs.Views.{newest_number, published_at}
 use Rattle.progress_words.specs.Roots.{newest_of}
 use Rattle.progress_words.specs.Tokens.{written_by}
 use Rattle.server_core.specs.ServerState.{empty_state}
@@ -76,7 +76,7 @@ first_alone (suc k) p at = absurd (none-some p at)
 
 module _ (names : List Mfa) (w : WriterView) (is : IsAtFirst w) where
   newest_first : newest_of w ≡ opening_published
-  newest_first = ap (λ (ps : List Published). published_at ps (newest ps)) is.published
+  newest_first = ap (λ (ps : List Published). published_at ps (newest_number ps)) is.published
 
   each_first : (k : ℕ) (p : Published) → slice_get w.published k ≡ Some p → p ≡ opening_published
   each_first k p at = first_alone k p (sym (ap (λ (ps : List Published). slice_get ps k) is.published) ∙ at)

@@ -6,14 +6,14 @@ use Rattle.term_core.specs.declared.area.AreaRef.{AreaRef}
 use Rattle.term_core.specs.declared.atom.Mfa.{Mfa}
 use Rattle.area_core.specs.declared.table.KeptArea.{KeptArea}
 use Rattle.area_core.specs.Blocks.{Among, IsForInstances}
-use Rattle.area_core.specs.Map.{block_place, breakpoint_at, breakpoint_place, doom_place, entry_at, retire_place, word_at}
+use Rattle.area_core.specs.Map.{block_place, breakpoint_at, breakpoint_place, doom_place, image_entry_at, retire_place, word_at}
 use Rattle.marks.specs.declared.kept.LookKind.TheVariants.{Both}
 use Rattle.shared_words.specs.declared.opening.Opening.{Opening}
 use Rattle.shared_words.specs.declared.view.WriterView.{WriterView}
 use Rattle.shared_words.specs.Slots.{IsClear}
 use Rattle.progress_words.specs.Tokens.{IsWriterOf, written_by}
 use Rattle.server_core.specs.declared.change.Change.{Change}
-use Rattle.server_core.specs.Decided.{made}
+use Rattle.server_core.specs.Decided.{change_made}
 use Rattle.server_core.specs.ServerState.{ServerState}
 use Rattle.breakpoints.specs.Laws.{AreasAreBehind, HasCleared, IsUncalled, KeepsDecision, LeavesDecisions}
 use Rattle.breakpoints.proofs.Spots.{decisions_apart}
@@ -87,8 +87,8 @@ module _ (block : ℕ) (old : WriterView) (words : List ℕ) (for : IsForInstanc
     published = refl;
     decisions = decision;
     entries = λ k function among has.
-        let high = block_above k.area.block (entry_at function) (fit k among) in
-        cleared.others (block_place k.area.block (entry_at function)) (λ bp f low few same. let there = (decision_place_is bp block f low for few).1 in omega (arith, high, same, there));
+        let high = block_above k.area.block (image_entry_at function) (fit k among) in
+        cleared.others (block_place k.area.block (image_entry_at function)) (λ bp f low few same. let there = (decision_place_is bp block f low for few).1 in omega (arith, high, same, there));
     kept = λ k among. among;
     dropped = λ k among. inl among;
     more = λ pair among. among;
@@ -220,7 +220,7 @@ module _ (table : TableId) (opening : Opening) (old new : Tables) (area : AreaRe
       whole = had.whole;
       exported = λ p up.
           subst (λ x. Stages x p after) (sym index)
-          ((by_index old.index before after (index_cleared before after clears) own.index).staged p (had.exported p (subst (λ (x : Areas). IsUpcoming names (made s change).state x p) pools up)));
+          ((by_index old.index before after (index_cleared before after clears) own.index).staged p (had.exported p (subst (λ (x : Areas). IsUpcoming names (change_made s change).state x p) pools up)));
     }
     stage_now s change Patching had = record { stands = stands_here s had.stands; index = index ∙ had.index; terms = ap (λ (x : Terms). x.staged) terms_are ∙ had.terms; patch = had.patch; is = patch ∙ had.is; of = had.of; before = had.before }
 

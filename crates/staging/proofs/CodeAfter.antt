@@ -8,14 +8,14 @@ use Rattle.term_core.specs.declared.generation.Generation.{Generation}
 use Rattle.mod_core.specs.declared.code.Module.{Module}
 use Rattle.area_core.specs.declared.table.Published.{Published}
 use Rattle.area_core.specs.Generations as generations
-use Rattle.area_core.specs.Generations.{functions_of, has_serial}
+use Rattle.area_core.specs.Generations.{functions_in_image, has_serial}
 use Rattle.server_core.specs.Generations.{generation_of}
 use Rattle.server_core.specs.declared.change.Change.{Change}
 use Rattle.server_core.specs.declared.change.Change.TheVariants.{BringIn, MakeOld}
 use Rattle.server_core.specs.Decided.{Fits}
 use Rattle.server_core.specs.ServerState.{IsSound, ServerState, instance_image, is_doomed, is_retired, live_count}
 use Rattle.change_laws.specs.Breakpoints.{KeepsBreakpoints, SetsInCode}
-use Rattle.change_laws.specs.Changes.{Incoming, incoming, instance, state_after}
+use Rattle.change_laws.specs.Changes.{Incoming, incoming, instance, changed_state}
 use Rattle.change_laws.proofs.Counted.{instances_counted}
 use Rattle.change_laws.proofs.Dropped.{load_leaves_rest}
 use Rattle.staging.specs.Standing.{IsShownBy}
@@ -32,7 +32,7 @@ pub record IsCodeAfter (s t : ServerState) : Type 0 where
   pub undoomed : s.doomed ≡ []
   pub doomed : t.doomed ≡ []
 
-pub code_after : (s : ServerState) (change : Change) → Fits s change → IsCodeChange change → IsCodeAfter s (state_after s change)
+pub code_after : (s : ServerState) (change : Change) → Fits s change → IsCodeChange change → IsCodeAfter s (changed_state s change)
 code_after s (BringIn generation modules areas versions) fits code =
     let same = load_leaves_rest s modules.items in
     record { keys = same.keys; retired = same.retired; released = same.released; undoomed = fits.1.rest; doomed = same.doomed ∙ fits.1.rest }
@@ -57,22 +57,22 @@ comes_instance s (MakeOld generation name) fits code place i at = absurd (cc)
 comes_instance s change fits code place i at = absurd code
 
 -- so many are live
-pub code_counted : (s : ServerState) (change : Change) → Fits s change → IsCodeChange change → live_count (state_after s change).versions ≡ live_count s.versions + length (incoming change)
+pub code_counted : (s : ServerState) (change : Change) → Fits s change → IsCodeChange change → live_count (changed_state s change).versions ≡ live_count s.versions + length (incoming change)
 code_counted s (BringIn generation modules areas versions) fits code =
     let counted = instances_counted s (BringIn generation modules areas versions) fits in let many = length-map modules.items instance in omega (arith, counted, many)
 code_counted s (MakeOld generation name) fits code = let counted = instances_counted s (MakeOld generation name) fits in omega (arith, counted)
 code_counted s change fits code = absurd code
 
 -- the image of an instance tells how many functions it has
-pub image_functions : (serial : ℕ) (m : Module) → functions_of (instance_image serial m) ≡ length m.functions
+pub image_functions : (serial : ℕ) (m : Module) → functions_in_image (instance_image serial m) ≡ length m.functions
 image_functions serial m = refl
 
 -- ---- the newest generation
 
 -- it has neither doomed nor retired what comes in
 pub record IsBelow (p : Published) (first : ℕ) : Type 0 where
-  pub unheard : (serial : ℕ) → first ≤ serial → generations.is_doomed p serial ≡ false
-  pub unretired : (serial : ℕ) → first ≤ serial → generations.is_retired p serial ≡ false
+  pub unheard : (serial : ℕ) → first ≤ serial → generations.is_doomed_area p serial ≡ false
+  pub unretired : (serial : ℕ) → first ≤ serial → generations.is_retired_area p serial ≡ false
 
 stood_below : (names : List Mfa) (stood : ServerState) (p : Published) → IsSound stood → p.state ≡ generation_of names stood → IsBelow p stood.next_serial
 stood_below names stood p sound shows = record {

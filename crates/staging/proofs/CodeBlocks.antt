@@ -11,7 +11,7 @@ use Rattle.server_core.specs.declared.change.Change.{Change}
 use Rattle.server_core.specs.Decided.{Fits}
 use Rattle.server_core.specs.Generations.{AreNumbered}
 use Rattle.server_core.specs.ServerState.{IsSound, ServerState, is_retired, is_serial_in, live_areas}
-use Rattle.change_laws.specs.Changes.{Incoming, incoming, state_after}
+use Rattle.change_laws.specs.Changes.{Incoming, incoming, changed_state}
 use Rattle.change_laws.specs.Uses.{IsUsed}
 use Rattle.change_laws.proofs.AreaUses.{used_stood}
 use Rattle.change_laws.proofs.Dropped.{used_known}
@@ -47,11 +47,11 @@ pub record IsPlacedWhole (names : List Mfa) (s : ServerState) (change : Change) 
   pub placed : ArePlaced (incoming change) rest pools w taken
   pub whole : length taken ≡ length (incoming change)
   pub owned : AreOf pools w
-  pub numbered : AreNumbered names (state_after s change)
+  pub numbered : AreNumbered names (changed_state s change)
 
 module _ (names : List Mfa) (s : ServerState) (change : Change) (w : WriterView) (rest pools : Areas) (taken : List AreaRef) (h : IsPlacedWhole names s change w rest pools taken) where
   abbrev after : ServerState
-  after = state_after s change
+  after = changed_state s change
 
   pub sound_after : IsSound after
   sound_after = change_sound s change h.sound h.fits

@@ -6,15 +6,15 @@ use Rattle.term_core.specs.declared.area.AreaRef.{AreaRef}
 use Rattle.term_core.specs.declared.atom.Mfa.{Mfa}
 use Rattle.mod_core.specs.declared.code.Module.{Module}
 use Rattle.area_core.specs.declared.table.KeptArea.{KeptArea}
-use Rattle.area_core.specs.Generations.{functions_of}
+use Rattle.area_core.specs.Generations.{functions_in_image}
 use Rattle.area_core.specs.Map.{doom_place, word_at}
 use Rattle.area_core.specs.Blocks.{Among, IsForInstances}
 use Rattle.shared_words.specs.declared.view.WriterView.{WriterView}
 use Rattle.progress_words.specs.Roots.{newest_of}
 use Rattle.server_core.specs.declared.change.Change.{Change}
 use Rattle.server_core.specs.ServerState.{ServerState, code_of, current_of, is_doomed, is_serial_in, words_of_area}
-use Rattle.change_laws.specs.Changes.{Incoming, state_after}
-use Rattle.change_laws.specs.Images.{module_of, words_of}
+use Rattle.change_laws.specs.Changes.{Incoming, changed_state}
+use Rattle.change_laws.specs.Images.{incoming_module, words_of}
 use Rattle.change_laws.specs.Uses.{IsUsed}
 use Rattle.change_laws.proofs.AreaUses.{used_stood}
 use Rattle.change_laws.proofs.KeptImages.{code_comes, code_stays, images_before, images_new}
@@ -34,7 +34,7 @@ use Rattle.staging.proofs.TakenUses.{retire_alike, serial_taken, taken_free}
 
 module _ (names : List Mfa) (s : ServerState) (change : Change) (w : WriterView) (rest pools : Areas) (taken : List AreaRef) (h : IsPlacedWhole names s change w rest pools taken) where
   abbrev after : ServerState
-  after = state_after s change
+  after = changed_state s change
 
   abbrev New : AreaRef → Type 0
   New a = IsNew names s change w rest pools taken h a
@@ -42,7 +42,7 @@ module _ (names : List Mfa) (s : ServerState) (change : Change) (w : WriterView)
   -- ---- each area
 
   code_new : (a : AreaRef) → (new : New a) → code_of after a.serial ≡ Some new.instance_is.m
-  code_new a new = ap (code_of after) new.serial ∙ code_comes s change new.place new.comes h.sound new.comes_at ∙ ap module_of new.instance_is.is
+  code_new a new = ap (code_of after) new.serial ∙ code_comes s change new.place new.comes h.sound new.comes_at ∙ ap incoming_module new.instance_is.is
 
   placed_after : AreasPlaced after pools
   placed_after = record { instances = in_big; terms = in_small }
@@ -66,7 +66,7 @@ module _ (names : List Mfa) (s : ServerState) (change : Change) (w : WriterView)
     unpublished = new.of.unpublished;
     live = new_live names s change w rest pools taken h new.place a new.at;
     room = new.of.room;
-    functions = λ big. subst (λ (i : Incoming). functions_of (words_of a.serial i) ≤ 16) (sym new.instance_is.is) (subst (λ (n : ℕ). n ≤ 16) (sym (image_functions a.serial new.instance_is.m)) new.instance_is.sound.few);
+    functions = λ big. subst (λ (i : Incoming). functions_in_image (words_of a.serial i) ≤ 16) (sym new.instance_is.is) (subst (λ (n : ℕ). n ≤ 16) (sym (image_functions a.serial new.instance_is.m)) new.instance_is.sound.few);
     written = new.of.written;
     undoomed = ap (λ (xs : List ℕ). is_serial_in xs a.serial) (code_after s change h.fits h.code).doomed;
     unheard = (newest_below names s (newest_of w) h.stands.newest_is).unheard a.serial (past new.serial);

@@ -4,7 +4,7 @@ use Rattle.term_core.specs.declared.area.AreaRef.{AreaRef}
 use Rattle.term_core.specs.declared.atom.Mfa.{Mfa}
 use Rattle.area_core.specs.declared.table.KeptArea.{KeptArea}
 use Rattle.area_core.specs.Generations as generations
-use Rattle.area_core.specs.Generations.{functions_of}
+use Rattle.area_core.specs.Generations.{functions_in_image}
 use Rattle.area_core.specs.Map.{room_of}
 use Rattle.area_core.specs.Blocks.{Among, KeptApart}
 use Rattle.shared_words.specs.declared.view.WriterView.{WriterView}
@@ -24,13 +24,13 @@ pub record IsFresh (s : ServerState) (pools : Areas) (w : WriterView) (a : AreaR
   pub unpublished : IsUnpublished w a
   pub live : use_of pools a.block ≡ Some (Live a.serial)
   pub room : length words ≤ room_of a.block
-  pub functions : a.block < 64 → functions_of words ≤ 16
+  pub functions : a.block < 64 → functions_in_image words ≤ 16
   pub written : HasWords w a words
   pub undoomed : is_doomed s a.serial ≡ false
   -- the newest generation has neither doomed nor retired it, nor does it trace one of its functions
-  pub unheard : generations.is_doomed (newest_of w) a.serial ≡ false
-  pub unretired : generations.is_retired (newest_of w) a.serial ≡ false
-  pub untraced : (function : ℕ) → generations.is_traced (newest_of w) a.serial function ≡ false
+  pub unheard : generations.is_doomed_area (newest_of w) a.serial ≡ false
+  pub unretired : generations.is_retired_area (newest_of w) a.serial ≡ false
+  pub untraced : (function : ℕ) → generations.is_traced_function (newest_of w) a.serial function ≡ false
 
 -- an area that stands has its words, and is kept or fresh
 pub record HasImage (s : ServerState) (pools : Areas) (w : WriterView) (a : AreaRef) : Type 0 where
@@ -63,5 +63,5 @@ entry_in serial function = record { serial = serial; function = function }
 
 -- the newest generation traces what the state traces, and nothing else of current and old code
 pub record TracesAlike (s : ServerState) (w : WriterView) : Type 0 where
-  pub fewer : (serial function : ℕ) → is_traced s (entry_in serial function) ≡ true → generations.is_traced (newest_of w) serial function ≡ true
-  pub same : (serial function : ℕ) → IsLiveCode s serial → is_traced s (entry_in serial function) ≡ generations.is_traced (newest_of w) serial function
+  pub fewer : (serial function : ℕ) → is_traced s (entry_in serial function) ≡ true → generations.is_traced_function (newest_of w) serial function ≡ true
+  pub same : (serial function : ℕ) → IsLiveCode s serial → is_traced s (entry_in serial function) ≡ generations.is_traced_function (newest_of w) serial function

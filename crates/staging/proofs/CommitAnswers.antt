@@ -14,7 +14,7 @@ use Rattle.server_core.specs.declared.change.Change.{Change}
 use Rattle.server_core.specs.Decided.{Fits}
 use Rattle.server_core.specs.Generations.{AreNumbered, generation_of}
 use Rattle.server_core.specs.ServerState.{IsSound, ServerState}
-use Rattle.change_laws.specs.Changes.{state_after}
+use Rattle.change_laws.specs.Changes.{changed_state}
 use Rattle.code_index.specs.Committed.{HasCommitted, IsWaiting, TakesNeed, committed}
 use Rattle.code_index.specs.declared.index.Staging.{Staging}
 use Rattle.code_index.specs.Staging.{IsIndexOf}
@@ -33,7 +33,7 @@ pub if_err : {A E : Type 0} (P Q : E → Type 0) (r : Result A E) → ((e : E) �
 if_err P Q (Ok x) f h = h
 if_err P Q (Err e) f h = f e h
 
-module _ (names : List Mfa) (s : ServerState) (change : Change) (table : TableId) (opening : Opening) (t : Tables) (taken : List AreaRef) (own : AreTablesOf table opening t) (sound : IsSound s) (fits : Fits s change) (had : HaveExported names s change t taken) (numbered : AreNumbered names (state_after s change)) where
+module _ (names : List Mfa) (s : ServerState) (change : Change) (table : TableId) (opening : Opening) (t : Tables) (taken : List AreaRef) (own : AreTablesOf table opening t) (sound : IsSound s) (fits : Fits s change) (had : HaveExported names s change t taken) (numbered : AreNumbered names (changed_state s change)) where
   -- what the call says of an answer
   pub record Answers (exports : List Mfa) (new : Tables) (r : Result ℕ NotYet) : Type 0 where
     pub named : exports ≡ names
@@ -42,18 +42,18 @@ module _ (names : List Mfa) (s : ServerState) (change : Change) (table : TableId
     pub pools : new.pools ≡ t.pools
     pub patch : new.patch ≡ t.patch
     pub owned : IsIndexOf new.index (written_by new.writer)
-    pub committed : IfOk r (λ generation. HasCommitted t.index new.index (committed (written_by t.writer) (generation_of exports (state_after s change)) (areas_in t.pools)) (written_by t.writer) (written_by new.writer) generation)
+    pub committed : IfOk r (λ generation. HasCommitted t.index new.index (committed (written_by t.writer) (generation_of exports (changed_state s change)) (areas_in t.pools)) (written_by t.writer) (written_by new.writer) generation)
     pub waits : IfErr r (λ answer. IsWaiting t.index new.index (written_by t.writer) (written_by new.writer) answer)
 
   by_commit : (exports : List Mfa) (new : Tables) (generation : ℕ) → Answers exports new (Ok generation) → AreCommitted names s change table opening t taken own sound fits had numbered new generation
   by_commit exports new generation said =
       are_committed names s change table opening t taken own sound fits had numbered new generation said.by_roots said.terms said.pools said.patch
-      (subst (λ (ns : List Mfa). HasCommitted t.index new.index (committed (written_by t.writer) (generation_of ns (state_after s change)) (areas_in t.pools)) (written_by t.writer) (written_by new.writer) generation) said.named said.committed)
+      (subst (λ (ns : List Mfa). HasCommitted t.index new.index (committed (written_by t.writer) (generation_of ns (changed_state s change)) (areas_in t.pools)) (written_by t.writer) (written_by new.writer) generation) said.named said.committed)
 
   by_wait : (exports : List Mfa) (new : Tables) (answer : NotYet) → Answers exports new (Err answer) → AreWaiting names s change table opening t taken own sound fits had numbered new answer
   by_wait exports new answer said = are_waiting names s change table opening t taken own sound fits had numbered new answer said.terms said.pools said.patch said.waits said.owned.staged
 
-  pub published_after : (exports : List Mfa) (new : Tables) (r : Result ℕ NotYet) → Answers exports new r → IfOk r (λ generation. HasPublished names (state_after s change) t new generation)
+  pub published_after : (exports : List Mfa) (new : Tables) (r : Result ℕ NotYet) → Answers exports new r → IfOk r (λ generation. HasPublished names (changed_state s change) t new generation)
   published_after exports new (Ok generation) said = (by_commit exports new generation said).published
   published_after exports new (Err answer) said = said.committed
 
@@ -71,7 +71,7 @@ module _ (names : List Mfa) (s : ServerState) (change : Change) (table : TableId
   known_after exports new (Ok generation) said =
       let done = said.committed in
       subst (KeepsKnown (written_by t.writer)) (sym done.view)
-      (known_on (written_by t.writer) done.waited (with_next (committed (written_by t.writer) (generation_of exports (state_after s change)) (areas_in t.pools)) done.waited)
+      (known_on (written_by t.writer) done.waited (with_next (committed (written_by t.writer) (generation_of exports (changed_state s change)) (areas_in t.pools)) done.waited)
       (known_waited t.index done.asked.begun done.waited done.need done.asked.waits.taken done.asked.loaded) (known_next done.waited _))
   known_after exports new (Err answer) said =
       let waiting = said.waits in

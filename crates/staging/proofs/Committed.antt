@@ -20,7 +20,7 @@ use Rattle.server_core.specs.ServerState.{IsSound, ServerState}
 use Rattle.breakpoints.specs.Indices.{BreakpointsRest}
 use Rattle.breakpoints.specs.Laws.{TracesStand}
 use Rattle.code_law.specs.Served.{IsServed}
-use Rattle.change_laws.specs.Changes.{incoming, state_after}
+use Rattle.change_laws.specs.Changes.{incoming, changed_state}
 use Rattle.change_laws.specs.Uses.{IsUsed}
 use Rattle.code_index.specs.declared.index.Staging.{Staging}
 use Rattle.code_index.specs.declared.index.Staging.TheVariants as indices
@@ -90,7 +90,7 @@ over_counted names after pools terms p first v counter rises was = record {
   published = was.published;
 }
 
-module _ (names : List Mfa) (s : ServerState) (change : Change) (table : TableId) (opening : Opening) (t : Tables) (taken : List AreaRef) (own : AreTablesOf table opening t) (sound : IsSound s) (fits : Fits s change) (had : HaveExported names s change t taken) (numbered : AreNumbered names (state_after s change)) where
+module _ (names : List Mfa) (s : ServerState) (change : Change) (table : TableId) (opening : Opening) (t : Tables) (taken : List AreaRef) (own : AreTablesOf table opening t) (sound : IsSound s) (fits : Fits s change) (had : HaveExported names s change t taken) (numbered : AreNumbered names (changed_state s change)) where
   code : IsCodeChange change
   code = had.code
 
@@ -98,7 +98,7 @@ module _ (names : List Mfa) (s : ServerState) (change : Change) (table : TableId
   w = written_by t.writer
 
   abbrev after : ServerState
-  after = state_after s change
+  after = changed_state s change
 
   abbrev p : Published
   p = committed w (generation_of names after) (areas_in t.pools)

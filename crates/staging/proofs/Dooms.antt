@@ -16,7 +16,7 @@ use Rattle.progress_words.specs.Roots.{newest_of}
 use Rattle.server_core.specs.declared.change.Change.TheVariants.{Condemn}
 use Rattle.server_core.specs.Decided.{CanBeDoomed, Fits}
 use Rattle.server_core.specs.ServerState.{IsSound, ServerState, is_doomed, is_serial_in}
-use Rattle.change_laws.specs.Changes.{state_after}
+use Rattle.change_laws.specs.Changes.{changed_state}
 use Rattle.change_laws.specs.Uses.{IsUsed}
 use Rattle.change_laws.proofs.SoundChanges.{change_sound}
 use Rattle.literal_areas.specs.declared.areas.Areas.{Areas}
@@ -75,7 +75,7 @@ module _ (names : List Mfa) (s : ServerState) (serial : ℕ) (can : CanBeDoomed 
   module _ (generation : ℕ) (pools : Areas) (v : WriterView) (words : List ℕ) (area : AreaRef) (stands : StandFor names s pools v) (owned : AreOf pools (record v { words = words })) (is : area.serial ≡ serial) (live : IsLive pools area) (big : area.block < 64) (some : 0 < length v.published)
       (here : word_at words (doom_place area.block) ≡ length v.published) (others : (place : ℕ) → (place ≡ doom_place area.block → ⊥) → word_at words place ≡ word_at v.words place) where
     abbrev after : ServerState
-    after = state_after s (Condemn generation serial)
+    after = changed_state s (Condemn generation serial)
 
     abbrev now : WriterView
     now = record v { words = words }
@@ -187,8 +187,8 @@ module _ (names : List Mfa) (s : ServerState) (serial : ℕ) (can : CanBeDoomed 
 
 -- so the state in which it is doomed may be published over the blocks of the newest generation
 pub doom_renewed : (names : List Mfa) (s : ServerState) (generation serial : ℕ) (pools : Areas) (before after : WriterView) → IsSound s → Fits s (Condemn generation serial) → StandFor names s pools before → AreOf pools before → AreOf pools after → 0 < length before.published → HasDoomed serial pools before after
-    → IsRenewed names s (state_after s (Condemn generation serial)) pools after
+    → IsRenewed names s (changed_state s (Condemn generation serial)) pools after
 doom_renewed names s generation serial pools before after sound fits stands was owned some d =
     let words = doomed_words serial pools before after was.all d in
-    subst (IsRenewed names s (state_after s (Condemn generation serial)) pools) (sym words.same)
+    subst (IsRenewed names s (changed_state s (Condemn generation serial)) pools) (sym words.same)
     (renewed_after names s serial fits.1 generation pools before after.words d.area stands (subst (AreOf pools) words.same owned) d.serial_is d.live d.big some words.here words.others (change_sound s (Condemn generation serial) sound fits))

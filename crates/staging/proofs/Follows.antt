@@ -1,6 +1,6 @@
 -- The newest generation traces what the state traces, and has its code; and so it does once a change is made that neither sets nor clears a breakpoint.
-use Rattle.std.proofs.Common.{◌≡◌, ◌≢◌, ℕ, ◌<◌, ◌≤◌, ◌⊎◌, inl, inr, Bool, true, false, cond, nat_eq, ◌&&◌, ◌||◌, List, [], ◌∷◌, map, Global, refl, sym, ap, subst, ◌∙◌, arith}
-use Rattle.std.specs.Prelude.{◌==◌, Some, Vec}
+use Rattle.std.proofs.Common.{◌≡◌, ◌≢◌, ℕ, ◌<◌, ◌≤◌, ◌⊎◌, inl, inr, Bool, true, false, cond, nat_eq, ◌&&◌, ◌||◌, List, [], ◌∷◌, map, refl, sym, ap, subst, ◌∙◌, arith}
+use Rattle.std.specs.Prelude.{◌==◌, Some}
 use Rattle.std.specs.List.{list_any}
 use Rattle.std.proofs.lemmas.Bool.{false_from_ne_true, or_left, or_right, true≢false}
 use Rattle.std.proofs.lemmas.Bool.Decides.{nat_tests}
@@ -14,6 +14,7 @@ use Rattle.area_core.specs.Generations as generations
 use Rattle.area_core.specs.Generations.{has_serial}
 use Rattle.shared_words.specs.declared.view.WriterView.{WriterView}
 use Rattle.progress_words.specs.Roots.{newest_of}
+use Rattle.server_core.specs.declared.slots.RetiredRoom.{RetiredRoom}
 use Rattle.server_core.specs.declared.change.Change.{Change}
 use Rattle.server_core.specs.declared.change.Change.TheVariants.{DropOld}
 use Rattle.server_core.specs.Decided.{Fits}
@@ -21,7 +22,7 @@ use Rattle.server_core.specs.Generations.{function_ref, generation_of}
 use Rattle.server_core.specs.ServerState.{Entry, IsSound, ServerState, current_of, empty_state, is_same_entry, is_traced, old_of}
 use Rattle.code_law.proofs.ServedAreas.{current_is_current, old_is_old}
 use Rattle.change_laws.specs.Breakpoints.{IsLiveCode, KeepsBreakpoints, KnowsItsCode}
-use Rattle.change_laws.specs.Changes.{state_after}
+use Rattle.change_laws.specs.Changes.{changed_state}
 use Rattle.change_laws.specs.Uses.{IsUsed}
 use Rattle.change_laws.proofs.Dropped.{used_known}
 use Rattle.change_laws.proofs.KeptTraced.{traced_after, traced_since}
@@ -42,7 +43,7 @@ traced_map [] serial function = refl
 traced_map (x ∷ es) serial function = (λ i. turned x.serial serial x.function function i || traced_map es serial function i)
 
 -- it traces what the state traces
-pub shown_traced : (names : List Mfa) (s : ServerState) (p : Published) → p.state ≡ generation_of names s → (serial function : ℕ) → generations.is_traced p serial function ≡ is_traced s (entry_in serial function)
+pub shown_traced : (names : List Mfa) (s : ServerState) (p : Published) → p.state ≡ generation_of names s → (serial function : ℕ) → generations.is_traced_function p serial function ≡ is_traced s (entry_in serial function)
 shown_traced names s p shows serial function =
     ap (λ (g : Generation). list_any (λ (f : FunctionRef). (f.serial == serial) && (f.function == function)) g.traced) shows ∙ traced_map s.traced serial function
 
@@ -58,12 +59,12 @@ lives_in names t sound serial (inr old) = or_right (has_serial (generation_of na
 
 module _ (names : List Mfa) (s : ServerState) (p : Published) (shown : IsShownBy names s p) where
   -- so does the newest one
-  pub newest_traced : (serial function : ℕ) → generations.is_traced p serial function ≡ is_traced s (entry_in serial function)
+  pub newest_traced : (serial function : ℕ) → generations.is_traced_function p serial function ≡ is_traced s (entry_in serial function)
   newest_traced serial function =
-      elim shown.shows as (λ _. generations.is_traced p serial function ≡ is_traced s (entry_in serial function)) [
+      elim shown.shows as (λ _. generations.is_traced_function p serial function ≡ is_traced s (entry_in serial function)) [
         | inl is ↦ shown_traced names shown.stood p is serial function ∙ sym (ap (λ (t : ServerState). is_traced t (entry_in serial function)) shown.since.same)
         | inr first ↦
-            ap (λ (x : Published). generations.is_traced x serial function) first.0
+            ap (λ (x : Published). generations.is_traced_function x serial function) first.0
             ∙ sym (ap (λ (t : ServerState). is_traced t (entry_in serial function)) shown.since.same ∙ ap (λ (t : ServerState). is_traced t (entry_in serial function)) first.1)
       ]
 
@@ -91,10 +92,10 @@ traced_known s sound knows serial function e = used_known s serial sound (live_u
 
 module _ (names : List Mfa) (s : ServerState) (change : Change) (w : WriterView) (sound : IsSound s) (fits : Fits s change) (knows : KnowsItsCode s) (shown : IsShownBy names s (newest_of w)) where
   abbrev after : ServerState
-  after = state_after s change
+  after = changed_state s change
 
   -- what came in with the change the newest generation does not trace
-  pub new_untraced : (serial function : ℕ) → s.next_serial ≤ serial → generations.is_traced (newest_of w) serial function ≡ false
+  pub new_untraced : (serial function : ℕ) → s.next_serial ≤ serial → generations.is_traced_function (newest_of w) serial function ≡ false
   new_untraced serial function past =
       newest_traced names s (newest_of w) shown serial function
       ∙ false_from_ne_true (is_traced s (entry_in serial function)) (λ e. let known = traced_known s sound knows serial function e in omega (arith, known, past))
@@ -131,9 +132,9 @@ module _ (names : List Mfa) (s : ServerState) (change : Change) (w : WriterView)
       same serial function = ap (list_any (is_same_entry (entry_in serial function))) (traced_after s change keeps)
 
 -- where old code is dropped, and its breakpoints with it
-module _ (names : List Mfa) (s : ServerState) (generation : ℕ) (name : AtomId) (gone : ℕ) (says : Bool) (retired : Vec ℕ Global) (w : WriterView) (shown : IsShownBy names s (newest_of w)) (differ : (serial : ℕ) → IsLiveCode (state_after s (DropOld generation name gone says retired)) serial → serial ≢ gone) where
+module _ (names : List Mfa) (s : ServerState) (generation : ℕ) (name : AtomId) (gone : ℕ) (says : Bool) (retired : RetiredRoom) (w : WriterView) (shown : IsShownBy names s (newest_of w)) (differ : (serial : ℕ) → IsLiveCode (changed_state s (DropOld generation name gone says retired)) serial → serial ≢ gone) where
   abbrev t : ServerState
-  t = state_after s (DropOld generation name gone says retired)
+  t = changed_state s (DropOld generation name gone says retired)
 
   then_is : (serial function : ℕ) → is_traced t (entry_in serial function) ≡ cond (nat_eq serial gone) false (is_traced s (entry_in serial function))
   then_is serial function = traced_since s (DropOld generation name gone says retired) (entry_in serial function)

@@ -13,8 +13,8 @@ use Rattle.server_core.specs.declared.change.Change.TheVariants.{HoldWord, HoldA
 use Rattle.server_core.specs.Generations.{AreNumbered}
 use Rattle.server_core.specs.ServerState.{ServerState}
 use Rattle.server_core.proofs.KeyEntries.{counted}
-use Rattle.change_laws.specs.Changes.{Incoming, incoming, state_after, stored}
-use Rattle.change_laws.specs.Images.{module_of}
+use Rattle.change_laws.specs.Changes.{Incoming, incoming, changed_state, stored}
+use Rattle.change_laws.specs.Images.{incoming_module}
 use Rattle.staging.specs.Placed.{IsAreaOf}
 use Rattle.staging.specs.Stages.{IsKeyChange}
 use Rattle.staging.proofs.KeyLists.{StandOnce, erase_stand, put_stand}
@@ -28,7 +28,7 @@ pub record IsKeyAfter (names : List Mfa) (s t : ServerState) : Type 0 where
   pub once : StandOnce s.keys → StandOnce t.keys
   pub numbered : AreNumbered names s → AreNumbered names t
 
-pub key_after : (names : List Mfa) (s : ServerState) (change : Change) → IsKeyChange change → IsKeyAfter names s (state_after s change)
+pub key_after : (names : List Mfa) (s : ServerState) (change : Change) → IsKeyChange change → IsKeyAfter names s (changed_state s change)
 key_after names s (HoldWord generation key term keys retired) is = record { versions = refl; released = refl; doomed = refl; once = λ once. put_stand s.keys (record { key = key.0; term = plain term; area = None }) once; numbered = λ numbered to. numbered to }
 key_after names s (HoldArea generation key term kept areas keys retired) is = record { versions = refl; released = refl; doomed = refl; once = λ once. put_stand s.keys (record { key = key.0; term = plain term; area = Some s.next_serial }) once; numbered = λ numbered to. numbered to }
 key_after names s (Forget generation key retired) is = record { versions = refl; released = refl; doomed = refl; once = λ once. erase_stand s.keys key.0 once; numbered = λ numbered to. numbered to }
@@ -39,7 +39,7 @@ key_after names s change is = absurd is
 -- it is a term, in a small block, and the area of the key
 pub record IsKeyTerm (s : ServerState) (change : Change) (place : ℕ) (i : Incoming) : Type 0 where
   pub small : (w : WriterView) (a : AreaRef) → IsAreaOf w i a → 64 ≤ a.block
-  pub no_code : module_of i ≡ None
+  pub no_code : incoming_module i ≡ None
   pub came : came_with s change ≡ Some (s.next_serial + place)
 
 key_term_is : (s : ServerState) (change : Change) (i : Incoming) → (term : PlainTerm) → stored term ≡ i → came_with s change ≡ Some s.next_serial → IsKeyTerm s change 0 i

@@ -9,8 +9,8 @@ use Rattle.shared_words.proofs.ShownMembers.{within_get}
 use Rattle.server_core.specs.declared.change.Change.{Change}
 use Rattle.server_core.specs.Decided.{Fits}
 use Rattle.server_core.specs.ServerState.{IsSound, ServerState, is_retired, is_serial_in, live_count}
-use Rattle.change_laws.specs.Changes.{Incoming, incoming, state_after}
-use Rattle.change_laws.specs.Images.{module_of}
+use Rattle.change_laws.specs.Changes.{Incoming, incoming, changed_state}
+use Rattle.change_laws.specs.Images.{incoming_module}
 use Rattle.change_laws.specs.Uses.{IsUsed}
 use Rattle.change_laws.proofs.Dropped.{used_known}
 use Rattle.change_laws.proofs.GivenSerials.{serials_given}
@@ -55,7 +55,7 @@ pub record IsReady (names : List Mfa) (s : ServerState) (change : Change) (v w :
 
 module _ (names : List Mfa) (s : ServerState) (change : Change) (v w : WriterView) (rest before pools : Areas) (taken : List AreaRef) (h : IsReady names s change v w rest before pools taken) where
   abbrev after : ServerState
-  after = state_after s change
+  after = changed_state s change
 
   abbrev former : Option ℕ
   former = former_of s change
@@ -87,7 +87,7 @@ module _ (names : List Mfa) (s : ServerState) (change : Change) (v w : WriterVie
     pub of : IsAreaOf v comes a
     pub serial : a.serial ≡ s.next_serial + place
     pub small : 64 ≤ a.block
-    pub no_code : module_of comes ≡ None
+    pub no_code : incoming_module comes ≡ None
     pub came : came_with s change ≡ Some a.serial
 
   pub new_at : (place : ℕ) (a : AreaRef) → slice_get taken place ≡ Some a → IsNew a

@@ -17,7 +17,7 @@ use Rattle.server_core.specs.declared.change.Change.{Change}
 use Rattle.server_core.specs.declared.change.Change.TheVariants.{HoldWord, HoldArea, Forget}
 use Rattle.server_core.specs.ServerState.{ServerState, Versions, code_of, current_among, is_doomed, is_serial_in, words_of_area}
 use Rattle.change_laws.specs.Breakpoints.{KeepsBreakpoints, SetsInCode}
-use Rattle.change_laws.specs.Changes.{state_after}
+use Rattle.change_laws.specs.Changes.{changed_state}
 use Rattle.change_laws.specs.Images.{words_of}
 use Rattle.change_laws.specs.Uses.{IsUsed}
 use Rattle.change_laws.proofs.Dropped.{used_known}
@@ -58,7 +58,7 @@ key_keeps change is = absurd is
 
 module _ (names : List Mfa) (s : ServerState) (change : Change) (v w : WriterView) (rest before pools : Areas) (taken : List AreaRef) (h : IsReady names s change v w rest before pools taken) where
   abbrev after : ServerState
-  after = state_after s change
+  after = changed_state s change
 
   -- ---- each area
 
@@ -104,10 +104,10 @@ module _ (names : List Mfa) (s : ServerState) (change : Change) (v w : WriterVie
     functions = λ big. absurd (let small = new.small in omega (arith, big, small));
     written = λ at value is. word_still (block_place a.block at) (inr (block_behind_all a.block at)) ∙ new.of.written at value is;
     undoomed = ap (λ (xs : List ℕ). is_serial_in xs a.serial) (keyed names s change v w rest before pools taken h).doomed ∙ no_doom a new;
-    unheard = subst (λ (q : Published). generations.is_doomed q a.serial ≡ false) (sym newest_same) ((newest_below names s (newest_of v) h.stands.newest_is).unheard a.serial (past new.serial));
-    unretired = subst (λ (q : Published). generations.is_retired q a.serial ≡ false) (sym newest_same) ((newest_below names s (newest_of v) h.stands.newest_is).unretired a.serial (past new.serial));
+    unheard = subst (λ (q : Published). generations.is_doomed_area q a.serial ≡ false) (sym newest_same) ((newest_below names s (newest_of v) h.stands.newest_is).unheard a.serial (past new.serial));
+    unretired = subst (λ (q : Published). generations.is_retired_area q a.serial ≡ false) (sym newest_same) ((newest_below names s (newest_of v) h.stands.newest_is).unretired a.serial (past new.serial));
     untraced = λ function.
-        subst (λ (q : Published). generations.is_traced q a.serial function ≡ false) (sym newest_same) (new_untraced names s change v h.sound h.fits h.stands.knows h.stands.newest_is a.serial function (past new.serial));
+        subst (λ (q : Published). generations.is_traced_function q a.serial function ≡ false) (sym newest_same) (new_untraced names s change v h.sound h.fits h.stands.knows h.stands.newest_is a.serial function (past new.serial));
   }
     where
       past : a.serial ≡ s.next_serial + new.place → s.next_serial ≤ a.serial
@@ -237,8 +237,8 @@ module _ (names : List Mfa) (s : ServerState) (change : Change) (v w : WriterVie
   key_alike =
       let was = alike_same names s change v h.sound h.fits h.stands.knows h.stands.newest_is (key_keeps change h.key) in
       record {
-        fewer = λ serial function e. subst (λ (q : Published). generations.is_traced q serial function ≡ true) (sym newest_same) (was.fewer serial function e);
-        same = λ serial function live. was.same serial function live ∙ ap (λ (q : Published). generations.is_traced q serial function) (sym newest_same);
+        fewer = λ serial function e. subst (λ (q : Published). generations.is_traced_function q serial function ≡ true) (sym newest_same) (was.fewer serial function e);
+        same = λ serial function live. was.same serial function live ∙ ap (λ (q : Published). generations.is_traced_function q serial function) (sym newest_same);
       }
 
   -- so the state may be published

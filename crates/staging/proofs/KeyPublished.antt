@@ -31,7 +31,7 @@ use Rattle.server_core.specs.ServerState.{HasItsArea, IsPersistent, IsSound, IsT
 use Rattle.breakpoints.specs.Indices.{BreakpointsRest}
 use Rattle.breakpoints.specs.Laws.{TracesStand}
 use Rattle.code_law.specs.Served.{IsServed}
-use Rattle.change_laws.specs.Changes.{incoming, state_after}
+use Rattle.change_laws.specs.Changes.{incoming, changed_state}
 use Rattle.change_laws.specs.Uses.{IsUsed}
 use Rattle.code_index.specs.declared.index.Staging.TheVariants as indices
 use Rattle.code_index.specs.Exports.{LeadTo}
@@ -74,7 +74,7 @@ use Rattle.staging.proofs.NextWords.{areas_next, fresh_fits, fresh_images, insta
 use Rattle.staging.proofs.Patched.{rest_counted, rest_of, rests}
 
 -- a change of a key leaves what calls reach
-calls_stay : (s : ServerState) (change : Change) → IsKeyChange change → (to : Mfa) → dispatch_of (state_after s change) to ≡ dispatch_of s to
+calls_stay : (s : ServerState) (change : Change) → IsKeyChange change → (to : Mfa) → dispatch_of (changed_state s change) to ≡ dispatch_of s to
 calls_stay s (HoldWord generation key term keys retired) is to = refl
 calls_stay s (HoldArea generation key term kept areas keys retired) is to = refl
 calls_stay s (Forget generation key retired) is to = refl
@@ -85,7 +85,7 @@ no_function k function small e = absurd (let parts = and_parts (nat_lt k.area.bl
 
 module _ (names : List Mfa) (s : ServerState) (change : Change) (v w : WriterView) (rest before pools : Areas) (taken : List AreaRef) (h : IsReady names s change v w rest before pools taken) where
   abbrev after : ServerState
-  after = state_after s change
+  after = changed_state s change
 
   next : ComesNext names after pools w
   next = key_comes_next names s change v w rest before pools taken h
@@ -127,8 +127,8 @@ module _ (names : List Mfa) (s : ServerState) (change : Change) (v w : WriterVie
         word_is : word_at w.words (retire_place k.area.block) ≡ 0
         word_is = next.words.retire k.area.block fits ∙ ap retire_word_of fresh.live
 
-        unretired : IsNew names s change v w rest before pools taken h k.area → generations.is_retired q k.area.serial ≡ false
-        unretired new = false_from_ne_true (generations.is_retired q k.area.serial) (λ e. let low = (h.stands.dropped.retired q k.area.serial (g, sym (ap (λ (ps : List Published). slice_get ps g) (ap (λ (x : WriterView). x.published) h.words.same)) ∙ here) e).0 in let past = new.serial in omega (arith, low, past))
+        unretired : IsNew names s change v w rest before pools taken h k.area → generations.is_retired_area q k.area.serial ≡ false
+        unretired new = false_from_ne_true (generations.is_retired_area q k.area.serial) (λ e. let low = (h.stands.dropped.retired q k.area.serial (g, sym (ap (λ (ps : List Published). slice_get ps g) (ap (λ (x : WriterView). x.published) h.words.same)) ∙ here) e).0 in let past = new.serial in omega (arith, low, past))
 
 -- ---- the key is staged, and the former area retired
 
@@ -163,7 +163,7 @@ module _ (names : List Mfa) (s : ServerState) (change : Change) (table : TableId
   view = written_by t.writer
 
   abbrev later : ServerState
-  later = state_after s change
+  later = changed_state s change
 
   same_published : view.published ≡ had.view.published
   same_published = published_retired (former_of s change) had.pools t.pools had.view view had.former

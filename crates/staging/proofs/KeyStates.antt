@@ -8,7 +8,7 @@ use Rattle.term_core.specs.Plain.{plain}
 use Rattle.server_core.specs.declared.change.Change.{Change}
 use Rattle.server_core.specs.declared.change.Change.TheVariants.{HoldWord, HoldArea, Forget}
 use Rattle.server_core.specs.CommandTable.{with_key, without_key}
-use Rattle.server_core.specs.Decided.{made}
+use Rattle.server_core.specs.Decided.{change_made}
 use Rattle.server_core.specs.Rooms.{area_among}
 use Rattle.server_core.specs.ServerState.{Persistent, ServerState, current_of, is_retired, is_serial_in, key_area, live_areas, old_of, persistent_among, persistent_of}
 use Rattle.server_core.proofs.KeyChanges.{IsAreaOf, area_of_key, in_option, persistent_erased, persistent_put}
@@ -107,7 +107,7 @@ module _ (s : ServerState) (key : ℕ) (o : Option Persistent) (keys : List Pers
         | inr other ↦ inr (inr (p.0, ap (λ (ks : List Persistent). area_among ks p.0) keys_are ∙ stays p.0 other p.1))
       ]
 
-pub rekeys : (s : ServerState) (change : Change) → StandOnce s.keys → IsKeyChange change → Rekeys s (made s change).state (former_of s change) (came_with s change)
+pub rekeys : (s : ServerState) (change : Change) → StandOnce s.keys → IsKeyChange change → Rekeys s (change_made s change).state (former_of s change) (came_with s change)
 rekeys s (HoldWord generation key term keys retired) once is = record {
   used = λ serial u. used_from s key.0 (Some new) (with_key s.keys new) (persistent_put s.keys new) t refl (λ name. refl) (λ name. refl) serial u;
   stays = λ serial u differ. used_still s key.0 (Some new) (with_key s.keys new) (persistent_put s.keys new) t refl (λ name. refl) (λ name. refl) serial (λ k other e. stays_put s.keys new k serial other e) u differ;
@@ -123,7 +123,7 @@ rekeys s (HoldWord generation key term keys retired) once is = record {
     new = record { key = key.0; term = plain term; area = None }
 
     t : ServerState
-    t = (made s (HoldWord generation key term keys retired)).state
+    t = (change_made s (HoldWord generation key term keys retired)).state
 rekeys s (HoldArea generation key term stored areas keys retired) once is = record {
   used = λ serial u. used_from s key.0 (Some new) (with_key s.keys new) (persistent_put s.keys new) t refl (λ name. refl) (λ name. refl) serial u;
   stays = λ serial u differ. used_still s key.0 (Some new) (with_key s.keys new) (persistent_put s.keys new) t refl (λ name. refl) (λ name. refl) serial (λ k other e. stays_put s.keys new k serial other e) u differ;
@@ -139,7 +139,7 @@ rekeys s (HoldArea generation key term stored areas keys retired) once is = reco
     new = record { key = key.0; term = plain term; area = Some s.next_serial }
 
     t : ServerState
-    t = (made s (HoldArea generation key term stored areas keys retired)).state
+    t = (change_made s (HoldArea generation key term stored areas keys retired)).state
 rekeys s (Forget generation key retired) once is = record {
   used = λ serial u. used_from s key.0 None (without_key key.0 s.keys) (persistent_erased s.keys key.0) t refl (λ name. refl) (λ name. refl) serial u;
   stays = λ serial u differ. used_still s key.0 None (without_key key.0 s.keys) (persistent_erased s.keys key.0) t refl (λ name. refl) (λ name. refl) serial (λ k other e. stays_erased s.keys key.0 k serial other e) u differ;
@@ -152,5 +152,5 @@ rekeys s (Forget generation key retired) once is = record {
 }
   where
     t : ServerState
-    t = (made s (Forget generation key retired)).state
+    t = (change_made s (Forget generation key retired)).state
 rekeys s change once is = absurd is

@@ -3,7 +3,7 @@ use Rattle.std.proofs.Common.{◌≡◌, ℕ, ◌≤◌, length, Some, refl, sym
 use Rattle.std.specs.Prelude.{slice_index}
 use Rattle.std.proofs.lemmas.Option.{none-some, same_Some}
 use Rattle.shared_words.specs.declared.view.WriterView.{WriterView}
-use Rattle.shared_words.specs.Views.{newest}
+use Rattle.shared_words.specs.Views.{newest_number}
 use Rattle.progress_words.specs.declared.answers.NotYet.{NotYet}
 use Rattle.progress_words.specs.Needs.{HasLoadedCounter, HasTaken}
 use Rattle.progress_words.specs.Tokens.{written_by}
@@ -34,10 +34,10 @@ key_awaits (Forget generation key retired) t is = refl
 key_awaits change t is = absurd is
 
 -- the value of a commit was taken while the newest generation was this one
-need_taken : (x : Staging) (w : WriterView) (need : ℕ) → GoesWith x w → commit_need x ≡ Some need → HasTaken w (newest w.published) need
+need_taken : (x : Staging) (w : WriterView) (need : ℕ) → GoesWith x w → commit_need x ≡ Some need → HasTaken w (newest_number w.published) need
 need_taken indices.Nothing w need goes is = absurd (none-some need is)
 need_taken (indices.Staged block) w need goes is = absurd (none-some need is)
-need_taken (indices.Committing block kept) w need goes is = subst (HasTaken w (newest w.published)) (same_Some kept need is) goes.1
+need_taken (indices.Committing block kept) w need goes is = subst (HasTaken w (newest_number w.published)) (same_Some kept need is) goes.1
 
 -- what a commit waited for before it waits for still
 need_kept : (x : Staging) (old begun : WriterView) (need kept : ℕ) → TakesNeed x old begun need → commit_need x ≡ Some kept → need ≡ kept

@@ -17,7 +17,7 @@ use Rattle.server_core.specs.Generations.{function_ref, generation_of}
 use Rattle.server_core.specs.ServerState.{ServerState, dispatch_of}
 use Rattle.code_index.specs.declared.index.Staging.{Staging}
 use Rattle.code_index.specs.declared.index.Staging.TheVariants.{Nothing, Staged, Committing}
-use Rattle.code_index.specs.Exports.{ExportsWith, KeepsExport, LeadTo, export_at, function_of}
+use Rattle.code_index.specs.Exports.{ExportsWith, KeepsExport, LeadTo, export_at, function_ref_of}
 use Rattle.code_index.specs.Staging.{Stages}
 
 -- what a call of the name reaches in a state, in plain numbers
@@ -86,7 +86,7 @@ module _ (names : List Mfa) (s after : ServerState) where
       same_entry (Some to) is = ap (option_map function_ref) (alike to is)
 
   -- else it is led to what it reaches then
-  pub next_changed : (n : ℕ) (p : Published) (to : Mfa) (r : Option CodeRef) → slice_get names n ≡ Some to → reached_in_state after to ≡ option_map function_of r → ((at : CodeRef) → r ≡ Some at → Among p.areas at.area) → ExportsWith n r (between n p) (between (n + 1) p)
+  pub next_changed : (n : ℕ) (p : Published) (to : Mfa) (r : Option CodeRef) → slice_get names n ≡ Some to → reached_in_state after to ≡ option_map function_ref_of r → ((at : CodeRef) → r ≡ Some at → Among p.areas at.area) → ExportsWith n r (between n p) (between (n + 1) p)
   next_changed n p to r is reaches placed = record {
     here = export_before (n + 1) p n (omega arith) ∙ ap (λ (o : Option Mfa). entry_of (option_map (reached_in_state after) o)) is ∙ reaches;
     placed = placed;

@@ -10,11 +10,11 @@ use Rattle.area_core.specs.declared.table.KeptArea.{KeptArea}
 use Rattle.area_core.specs.declared.table.Published.{Published}
 use Rattle.area_core.specs.Generations.{has_area, has_image, is_kept, is_kept_as, same_words}
 use Rattle.area_core.specs.Blocks.{Among, KeptApart, UsedAreKept}
-use Rattle.area_core.specs.Roots.{fresh_areas, image_of}
+use Rattle.area_core.specs.Roots.{fresh_areas, serial_image}
 use Rattle.area_core.proofs.RootTests.{in_either}
 use Rattle.shared_words.specs.declared.view.WriterView.{WriterView}
 use Rattle.shared_words.specs.Publishing.{AreasGoOn, kept_next}
-use Rattle.shared_words.specs.Rule.{AreApart}
+use Rattle.shared_words.specs.Rule.{AreAreasApart}
 use Rattle.server_core.specs.ServerState.{ServerState, words_of_area}
 use Rattle.literal_areas.specs.declared.areas.Areas.{Areas}
 use Rattle.literal_areas.specs.declared.blocks.BlockUse.{BlockUse}
@@ -49,11 +49,11 @@ same_all : (ws : List ℕ) → same_words ws ws ≡ true
 same_all [] = refl
 same_all (w ∷ ws) = and_from (w == w) (same_words ws ws) (eq-eqb w w refl) (same_all ws)
 
-image_has : (areas : List AreaWords) (serial : ℕ) (words : List ℕ) → image_of areas serial ≡ Some words → has_image areas serial words ≡ true
+image_has : (areas : List AreaWords) (serial : ℕ) (words : List ℕ) → serial_image areas serial ≡ Some words → has_image areas serial words ≡ true
 image_has [] serial words e = absurd (cc)
 image_has (a ∷ areas) serial words e = choose (a.serial == serial) e (image_has areas serial words)
   where
-    choose : (b : Bool) → (if b then Some a.words else image_of areas serial) ≡ Some words → (image_of areas serial ≡ Some words → has_image areas serial words ≡ true) → ((b && same_words a.words words) || has_image areas serial words) ≡ true
+    choose : (b : Bool) → (if b then Some a.words else serial_image areas serial) ≡ Some words → (serial_image areas serial ≡ Some words → has_image areas serial words ≡ true) → ((b && same_words a.words words) || has_image areas serial words) ≡ true
     choose true e more = or_left (same_words a.words words) (has_image areas serial words) (subst (λ (ws : List ℕ). same_words a.words ws ≡ true) (some_same a.words words e) (same_all a.words))
     choose false e more = more e
 
@@ -73,12 +73,12 @@ module _ (names : List Mfa) (s : ServerState) (pools : Areas) (w : WriterView) (
   stands_known a stands = next.owned.sound.below a.block a.serial stands
 
   -- the generation has the image of what stands
-  pub image_next : (a : AreaRef) (words : List ℕ) → Stands pools a → words_of_area s a.serial ≡ Some words → image_of p.state.areas a.serial ≡ Some words
+  pub image_next : (a : AreaRef) (words : List ℕ) → Stands pools a → words_of_area s a.serial ≡ Some words → serial_image p.state.areas a.serial ≡ Some words
   image_next a words stands is =
       let below = stands_known a stands in
       let same = next.blocks.next in
       let known : a.serial < s.next_serial = omega (arith, below, same) in
-      subst (λ (g : Generation). image_of g.areas a.serial ≡ Some words) (sym up.state)
+      subst (λ (g : Generation). serial_image g.areas a.serial ≡ Some words) (sym up.state)
       (image_below s s.next_serial a.serial words known (kept_words_are s a.serial words (next.blocks.unreleased a.block a.serial stands) is))
 
   -- ---- what is kept
@@ -130,7 +130,7 @@ module _ (names : List Mfa) (s : ServerState) (pools : Areas) (w : WriterView) (
 
   -- ---- each in its block
 
-  pub apart_areas : AreApart p
+  pub apart_areas : AreAreasApart p
   apart_areas a b here there same =
       let block = next.owned.sound.apart a.block b.block a.serial (listed_next a here) (listed_next b there ∙ ap (λ (n : ℕ). Some n) (sym same)) in
       λ i. record { serial = same i; block = block i }

@@ -10,7 +10,7 @@ use Rattle.area_core.specs.declared.table.KeptArea.{KeptArea}
 use Rattle.area_core.specs.declared.table.Published.{Published}
 use Rattle.area_core.specs.Generations.{is_kept}
 use Rattle.area_core.specs.Blocks.{Among}
-use Rattle.area_core.specs.Roots.{fresh_area, fresh_areas, fresh_in, image_of}
+use Rattle.area_core.specs.Roots.{fresh_area, fresh_areas, fresh_in, serial_image}
 use Rattle.server_core.specs.Generations.{kept_area, kept_areas, kept_words}
 use Rattle.server_core.specs.ServerState.{ServerState, is_serial_in, words_of_area}
 use Rattle.machine_core.specs.GenerationReads.{image_among}
@@ -34,25 +34,25 @@ at_any test (y ∷ xs) e =
 
 -- ---- images of a generation
 
-image_first : (xs ys : List AreaWords) (q : ℕ) → ((words : List ℕ) → image_of xs q ≡ Some words → image_of (xs ++ ys) q ≡ Some words) × (image_of xs q ≡ None → image_of (xs ++ ys) q ≡ image_of ys q)
+image_first : (xs ys : List AreaWords) (q : ℕ) → ((words : List ℕ) → serial_image xs q ≡ Some words → serial_image (xs ++ ys) q ≡ Some words) × (serial_image xs q ≡ None → serial_image (xs ++ ys) q ≡ serial_image ys q)
 image_first [] ys q = (λ words e. absurd (cc), λ _. refl)
 image_first (a ∷ xs) ys q = choose (a.serial == q) (image_first xs ys q)
   where
-    choose : (b : Bool) → ((words : List ℕ) → image_of xs q ≡ Some words → image_of (xs ++ ys) q ≡ Some words) × (image_of xs q ≡ None → image_of (xs ++ ys) q ≡ image_of ys q)
-        → ((words : List ℕ) → (if b then Some a.words else image_of xs q) ≡ Some words → (if b then Some a.words else image_of (xs ++ ys) q) ≡ Some words) × ((if b then Some a.words else image_of xs q) ≡ None → (if b then Some a.words else image_of (xs ++ ys) q) ≡ image_of ys q)
+    choose : (b : Bool) → ((words : List ℕ) → serial_image xs q ≡ Some words → serial_image (xs ++ ys) q ≡ Some words) × (serial_image xs q ≡ None → serial_image (xs ++ ys) q ≡ serial_image ys q)
+        → ((words : List ℕ) → (if b then Some a.words else serial_image xs q) ≡ Some words → (if b then Some a.words else serial_image (xs ++ ys) q) ≡ Some words) × ((if b then Some a.words else serial_image xs q) ≡ None → (if b then Some a.words else serial_image (xs ++ ys) q) ≡ serial_image ys q)
     choose true both = (λ words e. e, λ e. absurd (cc))
     choose false both = both
 
 -- the first image of a serial is found alike
-pub image_same : (areas : List AreaWords) (serial : ℕ) → image_of areas serial ≡ image_among areas serial
+pub image_same : (areas : List AreaWords) (serial : ℕ) → serial_image areas serial ≡ image_among areas serial
 image_same [] serial = refl
 image_same (a ∷ areas) serial = ap (λ (o : Option (List ℕ)). if a.serial == serial then Some a.words else o) (image_same areas serial)
 
-pub none_from : (s : ServerState) (n q : ℕ) → n ≤ q → image_of (kept_areas s n) q ≡ None
+pub none_from : (s : ServerState) (n q : ℕ) → n ≤ q → serial_image (kept_areas s n) q ≡ None
 none_from s zero q le = refl
 none_from s (suc n) q le = (image_first (kept_areas s n) (option_to_list (kept_area s n)) q).1 (none_from s n q (omega (arith, le))) ∙ one_none n q (kept_words s n) (omega (arith, le))
   where
-    one_none : (n q : ℕ) (o : Option (List ℕ)) → n < q → image_of (option_to_list (option_map (λ words. record { serial = n; words = words }) o)) q ≡ None
+    one_none : (n q : ℕ) (o : Option (List ℕ)) → n < q → serial_image (option_to_list (option_map (λ words. record { serial = n; words = words }) o)) q ≡ None
     one_none n q None less = refl
     one_none n q (Some words) less = choose (n == q) refl
       where
@@ -60,20 +60,20 @@ none_from s (suc n) q le = (image_first (kept_areas s n) (option_to_list (kept_a
         choose true e = absurd (let same = eqb-true n q e in omega (arith, same, less))
         choose false e = refl
 
-one_image : (n : ℕ) (o : Option (List ℕ)) (words : List ℕ) → o ≡ Some words → image_of (option_to_list (option_map (λ ws. record { serial = n; words = ws }) o)) n ≡ Some words
+one_image : (n : ℕ) (o : Option (List ℕ)) (words : List ℕ) → o ≡ Some words → serial_image (option_to_list (option_map (λ ws. record { serial = n; words = ws }) o)) n ≡ Some words
 one_image n None words e = absurd (cc)
 one_image n (Some ws) words e = ap (λ (b : Bool). if b then Some ws else None) (eq-eqb n n refl) ∙ e
 
 -- an area that is not released has its image there
-pub image_below : (s : ServerState) (n q : ℕ) (words : List ℕ) → q < n → kept_words s q ≡ Some words → image_of (kept_areas s n) q ≡ Some words
+pub image_below : (s : ServerState) (n q : ℕ) (words : List ℕ) → q < n → kept_words s q ≡ Some words → serial_image (kept_areas s n) q ≡ Some words
 image_below s zero q words less e = absurd (omega (arith, less))
 image_below s (suc n) q words less e =
-    elim (cases_lt q n) as (λ _. image_of (kept_areas s (suc n)) q ≡ Some words) [
+    elim (cases_lt q n) as (λ _. serial_image (kept_areas s (suc n)) q ≡ Some words) [
       | inl before ↦ (image_first (kept_areas s n) (option_to_list (kept_area s n)) q).0 words (image_below s n q words before e)
       | inr past ↦
           let same : n ≡ q = omega (arith, less, past) in
           (image_first (kept_areas s n) (option_to_list (kept_area s n)) q).1 (none_from s n q (omega (arith, past)))
-          ∙ subst (λ (k : ℕ). image_of (option_to_list (kept_area s n)) k ≡ Some words) same (one_image n (kept_words s n) words (ap (kept_words s) same ∙ e))
+          ∙ subst (λ (k : ℕ). serial_image (option_to_list (kept_area s n)) k ≡ Some words) same (one_image n (kept_words s n) words (ap (kept_words s) same ∙ e))
     ]
 
 pub kept_words_are : (s : ServerState) (serial : ℕ) (words : List ℕ) → is_serial_in s.released serial ≡ false → words_of_area s serial ≡ Some words → kept_words s serial ≡ Some words
@@ -85,7 +85,7 @@ kept_words_are s serial words unreleased is = ap (λ (b : Bool). if b then None 
 pub record IsFreshOf (kept : List KeptArea) (p : Published) (k : KeptArea) : Type 0 where
   pub listed : Among p.areas k.area
   pub unkept : is_kept kept k.area.serial ≡ false
-  pub image : image_of p.state.areas k.area.serial ≡ Some k.words
+  pub image : serial_image p.state.areas k.area.serial ≡ Some k.words
 
 mapped : (a : AreaRef) (o : Option (List ℕ)) (k : KeptArea) → option_map (λ words. record { area = a; words = words }) o ≡ Some k → (k.area ≡ a) × (o ≡ Some k.words)
 mapped a None k e = absurd (cc)
@@ -97,27 +97,27 @@ one_in (Some j) k (zero, here) = here
 one_in (Some j) k (suc i, there) = absurd (cc)
 
 module _ (kept : List KeptArea) (images : List AreaWords) where
-  fresh_is : (a : AreaRef) (k : KeptArea) → fresh_area kept images a ≡ Some k → (k.area ≡ a) × (is_kept kept a.serial ≡ false) × (image_of images a.serial ≡ Some k.words)
+  fresh_is : (a : AreaRef) (k : KeptArea) → fresh_area kept images a ≡ Some k → (k.area ≡ a) × (is_kept kept a.serial ≡ false) × (serial_image images a.serial ≡ Some k.words)
   fresh_is a k e =
-      let parts = unless_some (is_kept kept a.serial) (option_map (λ words. record { area = a; words = words }) (image_of images a.serial)) k e in
-      let both = mapped a (image_of images a.serial) k parts.1 in
+      let parts = unless_some (is_kept kept a.serial) (option_map (λ words. record { area = a; words = words }) (serial_image images a.serial)) k e in
+      let both = mapped a (serial_image images a.serial) k parts.1 in
       (both.0, parts.0, both.1)
 
-  fresh_from : (areas : List AreaRef) (k : KeptArea) → Among (flat_map (fresh_in kept images) areas) k → Among areas k.area × (is_kept kept k.area.serial ≡ false) × (image_of images k.area.serial ≡ Some k.words)
+  fresh_from : (areas : List AreaRef) (k : KeptArea) → Among (flat_map (fresh_in kept images) areas) k → Among areas k.area × (is_kept kept k.area.serial ≡ false) × (serial_image images k.area.serial ≡ Some k.words)
   fresh_from [] k at = absurd (let there = at.1 in cc)
   fresh_from (a ∷ areas) k at =
-      elim (among_either (fresh_in kept images a) (flat_map (fresh_in kept images) areas) k at) as (λ _. Among (a ∷ areas) k.area × (is_kept kept k.area.serial ≡ false) × (image_of images k.area.serial ≡ Some k.words)) [
+      elim (among_either (fresh_in kept images a) (flat_map (fresh_in kept images) areas) k at) as (λ _. Among (a ∷ areas) k.area × (is_kept kept k.area.serial ≡ false) × (serial_image images k.area.serial ≡ Some k.words)) [
         | inl here ↦
             let found = fresh_is a k (one_in (fresh_area kept images a) k here) in
-            ((0, ap (λ (x : AreaRef). Some x) (sym found.0)), ap (λ (x : AreaRef). is_kept kept x.serial) found.0 ∙ found.1, ap (λ (x : AreaRef). image_of images x.serial) found.0 ∙ found.2)
+            ((0, ap (λ (x : AreaRef). Some x) (sym found.0)), ap (λ (x : AreaRef). is_kept kept x.serial) found.0 ∙ found.1, ap (λ (x : AreaRef). serial_image images x.serial) found.0 ∙ found.2)
         | inr behind ↦ let found = fresh_from areas k behind in ((suc found.0.0, found.0.1), found.1, found.2)
       ]
 
-  fresh_one : (a : AreaRef) (words : List ℕ) → is_kept kept a.serial ≡ false → image_of images a.serial ≡ Some words → fresh_area kept images a ≡ Some (record { area = a; words = words })
+  fresh_one : (a : AreaRef) (words : List ℕ) → is_kept kept a.serial ≡ false → serial_image images a.serial ≡ Some words → fresh_area kept images a ≡ Some (record { area = a; words = words })
   fresh_one a words unkept image =
-      ap (λ (b : Bool). if b then None else option_map (λ ws. record { area = a; words = ws }) (image_of images a.serial)) unkept ∙ ap (option_map (λ ws. record { area = a; words = ws })) image
+      ap (λ (b : Bool). if b then None else option_map (λ ws. record { area = a; words = ws }) (serial_image images a.serial)) unkept ∙ ap (option_map (λ ws. record { area = a; words = ws })) image
 
-  fresh_to : (areas : List AreaRef) (a : AreaRef) (words : List ℕ) → Among areas a → is_kept kept a.serial ≡ false → image_of images a.serial ≡ Some words → Among (flat_map (fresh_in kept images) areas) (record { area = a; words = words })
+  fresh_to : (areas : List AreaRef) (a : AreaRef) (words : List ℕ) → Among areas a → is_kept kept a.serial ≡ false → serial_image images a.serial ≡ Some words → Among (flat_map (fresh_in kept images) areas) (record { area = a; words = words })
   fresh_to [] a words at unkept image = absurd (let there = at.1 in cc)
   fresh_to (b ∷ areas) a words (zero, here) unkept image =
       let same : b ≡ a = some_same b a here in
@@ -175,5 +175,5 @@ module _ (kept : List KeptArea) (images : List AreaWords) where
 pub fresh_of : (kept : List KeptArea) (p : Published) (k : KeptArea) → Among (fresh_areas kept p) k → IsFreshOf kept p k
 fresh_of kept p k at = let found = fresh_from kept p.state.areas p.areas k at in record { listed = found.0; unkept = found.1; image = found.2 }
 
-pub of_fresh : (kept : List KeptArea) (p : Published) (a : AreaRef) (words : List ℕ) → Among p.areas a → is_kept kept a.serial ≡ false → image_of p.state.areas a.serial ≡ Some words → Among (fresh_areas kept p) (record { area = a; words = words })
+pub of_fresh : (kept : List KeptArea) (p : Published) (a : AreaRef) (words : List ℕ) → Among p.areas a → is_kept kept a.serial ≡ false → serial_image p.state.areas a.serial ≡ Some words → Among (fresh_areas kept p) (record { area = a; words = words })
 of_fresh kept p a words at unkept image = fresh_to kept p.state.areas p.areas a words at unkept image

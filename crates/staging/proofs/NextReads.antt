@@ -169,5 +169,5 @@ module _ (names : List Mfa) (s : ServerState) (p : Published) (shows : p.state �
         | inr held ↦ inr (inr (shown_key once serial held))
       ]
 
-  pub shown_retired : (serial : ℕ) → generations.is_retired p serial ≡ is_retired s serial
+  pub shown_retired : (serial : ℕ) → generations.is_retired_area p serial ≡ is_retired s serial
   shown_retired serial = ap (λ (g : Generation). has_serial g.retired serial) shows

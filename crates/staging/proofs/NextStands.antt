@@ -12,7 +12,7 @@ use Rattle.area_core.specs.Blocks.{Among}
 use Rattle.area_core.specs.Step.{opening_published}
 use Rattle.shared_words.specs.declared.view.WriterView.{WriterView}
 use Rattle.shared_words.specs.Publishing.{kept_next, with_next}
-use Rattle.shared_words.specs.Views.{newest, published_at}
+use Rattle.shared_words.specs.Views.{newest_number, published_at}
 use Rattle.shared_words.proofs.OpeningRule.{last_get}
 use Rattle.progress_words.specs.Roots.{newest_of}
 use Rattle.server_core.specs.ServerState.{ServerState}
@@ -28,7 +28,7 @@ use Rattle.staging.proofs.NextAreas.{apart_next, is_kept_next, kept_is, listed_n
 use Rattle.staging.proofs.NextReads.{dropped_unused, shown_retired, shown_used}
 use Rattle.staging.proofs.NextStays.{dropped_next}
 
-newest_pushed : (xs : List Published) (p : Published) → newest (xs ++ p ∷ []) ≡ length xs
+newest_pushed : (xs : List Published) (p : Published) → newest_number (xs ++ p ∷ []) ≡ length xs
 newest_pushed xs p = let long = length-append xs (p ∷ []) in omega (arith, long)
 
 pub newest_next : (w : WriterView) (p : Published) → newest_of (with_next p w) ≡ p

@@ -42,7 +42,7 @@ module _ (names : List Mfa) (s : ServerState) (pools : Areas) (w : WriterView) (
       let doomed : is_doomed s serial ≡ true = sym (ap (λ (g : Generation). has_serial g.doomed serial) up.state) ∙ e in
       (used_known s serial next.sound (inr (inl (next.sound.doomed serial doomed))), inl doomed)
 
-  retired_next : (serial : ℕ) → generations.is_retired p serial ≡ true → (serial < s.next_serial) × (IsUsed s serial → ⊥)
+  retired_next : (serial : ℕ) → generations.is_retired_area p serial ≡ true → (serial < s.next_serial) × (IsUsed s serial → ⊥)
   retired_next serial e =
       let dropped = next.sound.retired serial (sym (shown_retired names s p up.state serial) ∙ e) in
       (dropped.known, λ used. dropped_unused s next.sound serial dropped used)
@@ -64,11 +64,11 @@ module _ (names : List Mfa) (s : ServerState) (pools : Areas) (w : WriterView) (
         | inr last ↦ doomed_next serial (subst (λ (x : Published). has_serial x.state.doomed serial ≡ true) last.1 e)
       ]
 
-  retired_each : (q : Published) (serial : ℕ) → Among listed q → generations.is_retired q serial ≡ true → (serial < s.next_serial) × (IsUsed s serial → ⊥)
+  retired_each : (q : Published) (serial : ℕ) → Among listed q → generations.is_retired_area q serial ≡ true → (serial < s.next_serial) × (IsUsed s serial → ⊥)
   retired_each q serial at e =
       elim (slice_get-push_at w.published p at.0 q at.1) as (λ _. (serial < s.next_serial) × (IsUsed s serial → ⊥)) [
         | inl before ↦ next.dropped.retired q serial (at.0, before) e
-        | inr last ↦ retired_next serial (subst (λ (x : Published). generations.is_retired x serial ≡ true) last.1 e)
+        | inr last ↦ retired_next serial (subst (λ (x : Published). generations.is_retired_area x serial ≡ true) last.1 e)
       ]
 
   none_current : (serial : ℕ) → ((name : ℕ) → current_of s name ≢ Some serial) → generations.is_current p serial ≡ false

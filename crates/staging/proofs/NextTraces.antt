@@ -49,24 +49,24 @@ module _ (names : List Mfa) (s : ServerState) (pools : Areas) (w : WriterView) (
       ]
 
   module _ (alike : TracesAlike s w) where
-    shown : (serial function : ℕ) → generations.is_traced p serial function ≡ is_traced s (entry_in serial function)
+    shown : (serial function : ℕ) → generations.is_traced_function p serial function ≡ is_traced s (entry_in serial function)
     shown = shown_traced names s p up.state
 
-    fewer : (serial function : ℕ) → generations.is_traced p serial function ≡ true → generations.is_traced (newest_of w) serial function ≡ true
+    fewer : (serial function : ℕ) → generations.is_traced_function p serial function ≡ true → generations.is_traced_function (newest_of w) serial function ≡ true
     fewer serial function e = alike.fewer serial function (sym (shown serial function) ∙ e)
 
-    not_traced : (serial function : ℕ) → generations.is_traced (newest_of w) serial function ≡ false → generations.is_traced p serial function ≡ false
-    not_traced serial function none = false_from_ne_true (generations.is_traced p serial function) (λ e. true≢false (sym (fewer serial function e) ∙ none))
+    not_traced : (serial function : ℕ) → generations.is_traced_function (newest_of w) serial function ≡ false → generations.is_traced_function p serial function ≡ false
+    not_traced serial function none = false_from_ne_true (generations.is_traced_function p serial function) (λ e. true≢false (sym (fewer serial function e) ∙ none))
 
-    unplaced : (a : AreaRef) (function : ℕ) → IsUnkept w a.block → Among p.areas a → generations.is_instance p a.serial ≡ true → generations.is_traced p a.serial function ≡ false
+    unplaced : (a : AreaRef) (function : ℕ) → IsUnkept w a.block → Among p.areas a → generations.is_instance p a.serial ≡ true → generations.is_traced_function p a.serial function ≡ false
     unplaced a function unkept among is =
         let has = next.images a (listed_next names s pools w p next up a among) in
-        elim has.stands as (λ _. generations.is_traced p a.serial function ≡ false) [
+        elim has.stands as (λ _. generations.is_traced_function p a.serial function ≡ false) [
           | inl kept ↦ absurd (unkept (record { area = a; words = has.words }) kept refl)
           | inr fresh ↦ not_traced a.serial function (fresh.untraced function)
         ]
 
-    untraced : (k : KeptArea) (function : ℕ) → Among (fresh_areas w.kept p) k → generations.is_traced p k.area.serial function ≡ false
+    untraced : (k : KeptArea) (function : ℕ) → Among (fresh_areas w.kept p) k → generations.is_traced_function p k.area.serial function ≡ false
     untraced k function at = not_traced k.area.serial function ((fresh_comes names s pools w p next up k at).0.untraced function)
 
     keeps : p.root.bp ≡ (newest_of w).root.bp → KeepsTraces w p

@@ -14,7 +14,7 @@ use Rattle.area_core.specs.Blocks.{Among, AreaStands, DoomTells, EntriesStand, F
 use Rattle.area_core.specs.Roots.{fresh_areas}
 use Rattle.shared_words.specs.declared.view.WriterView.{WriterView}
 use Rattle.shared_words.specs.Publishing.{kept_next}
-use Rattle.shared_words.specs.Views.{newest}
+use Rattle.shared_words.specs.Views.{newest_number}
 use Rattle.progress_words.specs.Roots.{newest_of}
 use Rattle.server_core.specs.ServerState.{ServerState, is_doomed}
 use Rattle.literal_areas.specs.declared.areas.Areas.{Areas}
@@ -48,30 +48,30 @@ module _ (names : List Mfa) (s : ServerState) (pools : Areas) (w : WriterView) (
   retire_is : (a : AreaRef) (u : BlockUse) → Stands pools a → use_of pools a.block ≡ Some u → word_at w.words (retire_place a.block) ≡ retire_word_of (Some u)
   retire_is a u stands is = next.words.retire a.block (block_fits a stands).1 ∙ ap retire_word_of is
 
-  live_unretired : (a : AreaRef) → use_of pools a.block ≡ Some (Live a.serial) → generations.is_retired p a.serial ≡ false
+  live_unretired : (a : AreaRef) → use_of pools a.block ≡ Some (Live a.serial) → generations.is_retired_area p a.serial ≡ false
   live_unretired a is = ap (λ (g : Generation). has_serial g.retired a.serial) up.state ∙ used_unretired s next.sound a.serial (live_used names s pools w p next up a is)
 
-  retire_tells : (a : AreaRef) → Stands pools a → tells (word_at w.words (retire_place a.block)) (length w.published) ≡ generations.is_retired p a.serial
+  retire_tells : (a : AreaRef) → Stands pools a → tells (word_at w.words (retire_place a.block)) (length w.published) ≡ generations.is_retired_area p a.serial
   retire_tells a stands = by (stands_as pools a stands)
     where
-      by : StandsAs pools a → tells (word_at w.words (retire_place a.block)) (length w.published) ≡ generations.is_retired p a.serial
+      by : StandsAs pools a → tells (word_at w.words (retire_place a.block)) (length w.published) ≡ generations.is_retired_area p a.serial
       by (live_area is) = ap (λ (word : ℕ). tells word (length w.published)) (retire_is a (Live a.serial) stands is) ∙ sym (live_unretired a is)
       by (retired_area since is) =
           let when = next.words.since a.block a.serial since is in
           ap (λ (word : ℕ). tells word (length w.published)) (retire_is a (Retired a.serial since) stands is) ∙ tells_from since (length w.published) when.0 when.1
           ∙ sym (ap (λ (g : Generation). has_serial g.retired a.serial) up.state ∙ next.blocks.retired a.block a.serial since is)
 
-  retired_true : (a : AreaRef) (since : ℕ) → use_of pools a.block ≡ Some (Retired a.serial since) → generations.is_retired p a.serial ≡ true
+  retired_true : (a : AreaRef) (since : ℕ) → use_of pools a.block ≡ Some (Retired a.serial since) → generations.is_retired_area p a.serial ≡ true
   retired_true a since is = ap (λ (g : Generation). has_serial g.retired a.serial) up.state ∙ next.blocks.retired a.block a.serial since is
 
   word_tells : (serial word : ℕ) (b : Bool) → is_doomed s serial ≡ b → DoomStands s serial (length w.published) word → tells word (length w.published) ≡ b
   word_tells serial word false doomed stands = ap (λ (x : ℕ). tells x (length w.published)) (stands.clear doomed)
   word_tells serial word true doomed stands = let set = stands.set doomed in tells_from word (length w.published) set.0 set.1
 
-  doom_tells : (a : AreaRef) → Stands pools a → a.block < 64 → generations.is_retired p a.serial ≡ false → tells (word_at w.words (doom_place a.block)) (length w.published) ≡ generations.is_doomed p a.serial
+  doom_tells : (a : AreaRef) → Stands pools a → a.block < 64 → generations.is_retired_area p a.serial ≡ false → tells (word_at w.words (doom_place a.block)) (length w.published) ≡ generations.is_doomed_area p a.serial
   doom_tells a stands big unretired = by (stands_as pools a stands)
     where
-      by : StandsAs pools a → tells (word_at w.words (doom_place a.block)) (length w.published) ≡ generations.is_doomed p a.serial
+      by : StandsAs pools a → tells (word_at w.words (doom_place a.block)) (length w.published) ≡ generations.is_doomed_area p a.serial
       by (live_area is) =
           word_tells a.serial (word_at w.words (doom_place a.block)) (is_doomed s a.serial) refl (next.words.doom a.block a.serial big is)
           ∙ sym (ap (λ (g : Generation). has_serial g.doomed a.serial) up.state)
@@ -101,14 +101,14 @@ module _ (names : List Mfa) (s : ServerState) (pools : Areas) (w : WriterView) (
   pub fresh_images : (k : KeptArea) → Among (fresh_areas w.kept p) k → ImageStands (word_at w.words) k
   fresh_images k at place value is plain = (fresh_comes names s pools w p next up k at).0.written place value is
 
-  pub fresh_told : (k : KeptArea) → Among (fresh_areas w.kept p) k → AreaStands (word_at w.words) k (newest w.published) (newest_of w)
+  pub fresh_told : (k : KeptArea) → Among (fresh_areas w.kept p) k → AreaStands (word_at w.words) k (newest_number w.published) (newest_of w)
   fresh_told k at =
       let comes = (fresh_comes names s pools w p next up k at).0 in
       let within = use_within pools k.area.block (Live k.area.serial) next.owned.sound.sizes comes.live in
       record {
         entries = λ function has word. comes.untraced function;
-        retired = ap (λ (word : ℕ). tells word (newest w.published)) (next.words.retire k.area.block within ∙ ap retire_word_of comes.live) ∙ sym comes.unretired;
-        doomed = λ big unretired. ap (λ (word : ℕ). tells word (newest w.published)) ((next.words.doom k.area.block k.area.serial big comes.live).clear comes.undoomed) ∙ sym comes.unheard;
+        retired = ap (λ (word : ℕ). tells word (newest_number w.published)) (next.words.retire k.area.block within ∙ ap retire_word_of comes.live) ∙ sym comes.unretired;
+        doomed = λ big unretired. ap (λ (word : ℕ). tells word (newest_number w.published)) ((next.words.doom k.area.block k.area.serial big comes.live).clear comes.undoomed) ∙ sym comes.unheard;
       }
 
   -- ---- instances

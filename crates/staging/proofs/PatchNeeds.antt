@@ -4,7 +4,7 @@ use Rattle.std.proofs.lemmas.Option.{none-some, same_Some}
 use Rattle.term_core.specs.declared.area.CodeRef.{CodeRef}
 use Rattle.shared_words.specs.declared.seats.Writer as writers
 use Rattle.shared_words.specs.declared.view.WriterView.{WriterView}
-use Rattle.shared_words.specs.Views.{newest}
+use Rattle.shared_words.specs.Views.{newest_number}
 use Rattle.progress_words.specs.declared.answers.NotYet.{NotYet}
 use Rattle.progress_words.specs.Needs.{HasTaken}
 use Rattle.progress_words.specs.Tokens.{written_by}
@@ -86,12 +86,12 @@ late_from old mid new answer first goes h = record {
 }
 
 -- the value of its phase was taken while the newest generation was this one
-phase_taken : (at : CodeRef) (on : Bool) (phase : Phase) (w : WriterView) (need : ℕ) → PhaseStands at on phase w → phase_need phase ≡ Some need → HasTaken w (newest w.published) need
+phase_taken : (at : CodeRef) (on : Bool) (phase : Phase) (w : WriterView) (need : ℕ) → PhaseStands at on phase w → phase_need phase ≡ Some need → HasTaken w (newest_number w.published) need
 phase_taken at on Begun w need h is = absurd (none-some need is)
-phase_taken at on (Staged n) w need h is = subst (HasTaken w (newest w.published)) (same_Some n need is) h.0.taken
-phase_taken at on (Entered n) w need h is = subst (HasTaken w (newest w.published)) (same_Some n need is) h.0.taken
-phase_taken at on (Published n) w need h is = subst (HasTaken w (newest w.published)) (same_Some n need is) h.0.taken
-phase_taken at on (Restored n) w need h is = subst (HasTaken w (newest w.published)) (same_Some n need is) h.0.taken
+phase_taken at on (Staged n) w need h is = subst (HasTaken w (newest_number w.published)) (same_Some n need is) h.0.taken
+phase_taken at on (Entered n) w need h is = subst (HasTaken w (newest_number w.published)) (same_Some n need is) h.0.taken
+phase_taken at on (Published n) w need h is = subst (HasTaken w (newest_number w.published)) (same_Some n need is) h.0.taken
+phase_taken at on (Restored n) w need h is = subst (HasTaken w (newest_number w.published)) (same_Some n need is) h.0.taken
 phase_taken at on Finished w need h is = absurd (none-some need is)
 
 pub patch_late : (t new : Tables) (y z : Patch) (answer : NotYet) → t.patch ≡ Some z → new.patch ≡ Some y → IsPatchOf y (written_by new.writer) → PatchWaits z y (written_by t.writer) (written_by new.writer) answer → IsPatchLate t new answer

@@ -15,7 +15,7 @@ use Rattle.breakpoints.specs.declared.patch.Phase.{Phase}
 use Rattle.breakpoints.specs.declared.patch.Phase.TheVariants.{Begun, Staged, Entered, Published as IsSwitched, Restored, Finished}
 use Rattle.breakpoints.specs.Patches.{HasPatched, IsLastPhase, IsSettling, IsUnpublished, MovesTo, PhaseStands}
 use Rattle.breakpoints.proofs.Standing.{patch_for}
-use Rattle.change_laws.specs.Changes.{state_after}
+use Rattle.change_laws.specs.Changes.{changed_state}
 use Rattle.code_index.specs.declared.index.Staging.TheVariants as indices
 use Rattle.code_index.specs.Laws as index_laws
 use Rattle.code_index.specs.Staging.{IsIndexOf}
@@ -69,12 +69,12 @@ append_none (x ∷ xs) = ap (λ ys. x ∷ ys) (append_none xs)
 
 -- ---- what a change of what is traced leaves of calls and keys
 
-pub calls_stay : (s : ServerState) (change : Change) (x : Patch) → IsPatchFor change x → (to : Mfa) → dispatch_of (state_after s change) to ≡ dispatch_of s to
+pub calls_stay : (s : ServerState) (change : Change) (x : Patch) → IsPatchFor change x → (to : Mfa) → dispatch_of (changed_state s change) to ≡ dispatch_of s to
 calls_stay s (SetTrace generation at traced) x of to = refl
 calls_stay s (ClearTrace generation at) x of to = refl
 calls_stay s change x of to = absurd of
 
-pub keys_same : (s : ServerState) (change : Change) (x : Patch) → IsPatchFor change x → (state_after s change).keys ≡ s.keys
+pub keys_same : (s : ServerState) (change : Change) (x : Patch) → IsPatchFor change x → (changed_state s change).keys ≡ s.keys
 keys_same s (SetTrace generation at traced) x of = refl
 keys_same s (ClearTrace generation at) x of = refl
 keys_same s change x of = absurd of

@@ -4,7 +4,7 @@ use Rattle.prgr_core.specs.declared.member.Retirement.{Retirement}
 use Rattle.term_core.specs.declared.area.CodeRef.{CodeRef}
 use Rattle.term_core.specs.declared.atom.Mfa.{Mfa}
 use Rattle.area_core.specs.Blocks.{Among, IsForInstances}
-use Rattle.area_core.specs.Map.{block_place, breakpoint_place, doom_place, entry_at, retire_place, word_at}
+use Rattle.area_core.specs.Map.{block_place, breakpoint_place, doom_place, image_entry_at, retire_place, word_at}
 use Rattle.shared_words.specs.declared.view.WriterView.{WriterView}
 use Rattle.shared_words.specs.Rule.{MayBeRead}
 use Rattle.server_core.specs.ServerState.{ServerState}
@@ -141,7 +141,7 @@ module _ (at : CodeRef) (old new : WriterView) (for : IsForInstances at.area.blo
   off_tables place high bp fits same = let there = (decision_place_is bp at.area.block at.function fits for few).1 in omega (arith, high, same, there)
 
   off_entry : (place : ℕ) → place < 10709 → place ≢ entry_place at
-  off_entry place low same = let first = for.first in let high = block_above at.area.block (entry_at at.function) (omega (arith, first)) in omega (arith, low, same, high)
+  off_entry place low same = let first = for.first in let high = block_above at.area.block (image_entry_at at.function) (omega (arith, first)) in omega (arith, low, same, high)
 
   pub patch_stores : StoresPatch old mid
   patch_stores = record {

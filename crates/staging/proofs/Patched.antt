@@ -5,7 +5,7 @@ use Rattle.term_core.specs.declared.area.CodeRef.{CodeRef}
 use Rattle.area_core.specs.declared.table.KeptArea.{KeptArea}
 use Rattle.area_core.specs.Blocks.{Among, FitsBlock, IsForInstances}
 use Rattle.area_core.specs.Generations.{has_function}
-use Rattle.area_core.specs.Map.{block_place, breakpoint_at, breakpoint_place, entry_at, word_at}
+use Rattle.area_core.specs.Map.{block_place, breakpoint_at, breakpoint_place, image_entry_at, word_at}
 use Rattle.marks.specs.declared.kept.WriterKept.{WriterKept}
 use Rattle.shared_words.specs.declared.view.WriterView.{WriterView}
 use Rattle.shared_words.specs.Kinds.{counter_kept}
@@ -39,7 +39,7 @@ patch_leaves o after old new is leaves was = subst (λ (p : Option Patch). Patch
 pub record StoresBeside (old new : WriterView) : Type 0 where
   pub long : length new.words ≡ length old.words
   pub decisions : (bp block function : ℕ) → bp < 2 → IsForInstances block → function < 16 → word_at new.words (breakpoint_place bp block function) ≡ word_at old.words (breakpoint_place bp block function)
-  pub entries : (k : KeptArea) (function : ℕ) → Among old.kept k → has_function k function ≡ true → word_at new.words (block_place k.area.block (entry_at function)) ≡ word_at old.words (block_place k.area.block (entry_at function))
+  pub entries : (k : KeptArea) (function : ℕ) → Among old.kept k → has_function k function ≡ true → word_at new.words (block_place k.area.block (image_entry_at function)) ≡ word_at old.words (block_place k.area.block (image_entry_at function))
   pub same : new ≡ record old { words = new.words }
 
 leaves_here : (old : WriterView) (words : List ℕ) → StoresBeside old (record old { words = words }) → LeavesDecisions old (record old { words = words })
@@ -65,7 +65,7 @@ pub front_beside : (old new : WriterView) → length new.words ≡ length old.wo
 front_beside old new long others same = record {
   long = long;
   decisions = λ bp block function low for few. others (breakpoint_place bp block function) (block_behind (3 + bp) (breakpoint_at block function));
-  entries = λ k function among has. others (block_place k.area.block (entry_at function)) (block_behind k.area.block (entry_at function));
+  entries = λ k function among has. others (block_place k.area.block (image_entry_at function)) (block_behind k.area.block (image_entry_at function));
   same = same;
 }
 
@@ -78,7 +78,7 @@ exports_beside old new long areas stores = record {
       stores.others (block_place (3 + bp) place) (behind_elsewhere (block_place (3 + bp) place) (third_behind (3 + bp) place (omega arith)));
   entries = λ k function among has.
       let first = areas k among in
-      stores.others (block_place k.area.block (entry_at function)) (behind_elsewhere (block_place k.area.block (entry_at function)) (third_behind k.area.block (entry_at function) (omega (arith, first))));
+      stores.others (block_place k.area.block (image_entry_at function)) (behind_elsewhere (block_place k.area.block (image_entry_at function)) (third_behind k.area.block (image_entry_at function) (omega (arith, first))));
   same = stores.same;
 }
 
@@ -102,8 +102,8 @@ write_beside block old new high long fit unkept others same = record {
       let both = area_for k function (fit k among) has in
       let last = both.0.last in
       let few = both.1 in
-      others k.area.block (entry_at function) (unkept k among) (omega (arith, last))
-      (subst (λ (room : ℕ). entry_at function < room) (sym (big_room k.area.block last)) (omega (arith, few)));
+      others k.area.block (image_entry_at function) (unkept k among) (omega (arith, last))
+      (subst (λ (room : ℕ). image_entry_at function < room) (sym (big_room k.area.block last)) (omega (arith, few)));
   same = same;
 }
 

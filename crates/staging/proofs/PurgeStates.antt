@@ -1,16 +1,17 @@
 -- What the drop of old code leaves of the state: one instance is used no more and retired, nothing is doomed, and all else stays.
-use Rattle.std.proofs.Common.{◌≡◌, ◌≢◌, ℕ, ◌+◌, ◌<◌, ◌≤◌, ◌⊎◌, inl, inr, Bool, true, false, cond, not, List, [], ◌∷◌, Global, refl, sym, ap, ◌∙◌, arith}
-use Rattle.std.specs.Prelude.{◌==◌, ◌||◌, Vec}
+use Rattle.std.proofs.Common.{◌≡◌, ◌≢◌, ℕ, ◌+◌, ◌<◌, ◌≤◌, ◌⊎◌, inl, inr, Bool, true, false, cond, not, List, [], ◌∷◌, refl, sym, ap, ◌∙◌, arith}
+use Rattle.std.specs.Prelude.{◌==◌, ◌||◌}
 use Rattle.std.proofs.lemmas.Bool.{eqb-true, false_from_ne_true, true≢false}
 use Rattle.term_core.specs.declared.atom.AtomId.{AtomId}
 use Rattle.term_core.specs.declared.atom.Mfa.{Mfa}
+use Rattle.server_core.specs.declared.slots.RetiredRoom.{RetiredRoom}
 use Rattle.server_core.specs.declared.change.Change.TheVariants.{DropOld}
 use Rattle.server_core.specs.CommandTable.{without_number}
 use Rattle.server_core.specs.Decided.{Fits}
 use Rattle.server_core.specs.Generations.{AreNumbered}
 use Rattle.server_core.specs.ServerState.{IsOldCode, IsSound, ServerState, current_of, dispatch_of, is_doomed, is_retired, is_serial_in, live_count}
 use Rattle.change_laws.specs.Breakpoints.{IsLiveCode, KnowsItsCode}
-use Rattle.change_laws.specs.Changes.{state_after}
+use Rattle.change_laws.specs.Changes.{changed_state}
 use Rattle.change_laws.specs.Uses.{IsUsed}
 use Rattle.change_laws.proofs.AreaUses.{used_stood}
 use Rattle.change_laws.proofs.Counted.{instances_counted}
@@ -59,9 +60,9 @@ none_other serial (x ∷ xs) n none differ = by (x == serial) refl (none_other s
 
 -- ---- the state
 
-module _ (names : List Mfa) (s : ServerState) (generation : ℕ) (name : AtomId) (serial : ℕ) (says : Bool) (block : Vec ℕ Global) (was : IsSound s) (fits : Fits s (DropOld generation name serial says block)) where
+module _ (names : List Mfa) (s : ServerState) (generation : ℕ) (name : AtomId) (serial : ℕ) (says : Bool) (block : RetiredRoom) (was : IsSound s) (fits : Fits s (DropOld generation name serial says block)) where
   abbrev t : ServerState
-  t = state_after s (DropOld generation name serial says block)
+  t = changed_state s (DropOld generation name serial says block)
 
   now : IsSound t
   now = change_sound s (DropOld generation name serial says block) was fits

@@ -1,6 +1,5 @@
 -- Old code is dropped: its retire word is stored before the root, and the words then stand for the state that has dropped it.
-use Rattle.std.proofs.Common.{◌≡◌, ◌≢◌, ℕ, ◌+◌, ◌-◌, ◌<◌, ◌≤◌, ◌⊎◌, inl, inr, Bool, true, List, length, Global, Some, refl, sym, ap, subst, ◌∙◌, arith}
-use Rattle.std.specs.Prelude.{Vec}
+use Rattle.std.proofs.Common.{◌≡◌, ◌≢◌, ℕ, ◌+◌, ◌-◌, ◌<◌, ◌≤◌, ◌⊎◌, inl, inr, Bool, true, List, length, Some, refl, sym, ap, subst, ◌∙◌, arith}
 use Rattle.std.proofs.lemmas.Bool.{lt-ltb, true≢false}
 use Rattle.prgr_core.proofs.Parts.{and_then_some, some_same}
 use Rattle.term_core.specs.declared.area.AreaRef.{AreaRef}
@@ -12,10 +11,11 @@ use Rattle.shared_words.specs.declared.view.WriterView.{WriterView}
 use Rattle.shared_words.proofs.ShownMembers.{within_get}
 use Rattle.shared_words.specs.Publishing.{with_word}
 use Rattle.progress_words.specs.Roots.{newest_of}
+use Rattle.server_core.specs.declared.slots.RetiredRoom.{RetiredRoom}
 use Rattle.server_core.specs.declared.change.Change.TheVariants.{DropOld}
 use Rattle.server_core.specs.Decided.{Fits}
 use Rattle.server_core.specs.ServerState.{IsSound, ServerState, code_of, is_doomed, is_retired}
-use Rattle.change_laws.specs.Changes.{state_after}
+use Rattle.change_laws.specs.Changes.{changed_state}
 use Rattle.change_laws.specs.Uses.{IsUsed}
 use Rattle.literal_areas.specs.declared.areas.Areas.{Areas}
 use Rattle.literal_areas.specs.declared.blocks.BlockUse.{BlockUse}
@@ -76,10 +76,10 @@ module _ (old : Areas) (sound : blocks.IsSound old) (area : AreaRef) (since : �
 
 -- ---- the state
 
-module _ (names : List Mfa) (s : ServerState) (generation : ℕ) (name : AtomId) (serial : ℕ) (says : Bool) (block : Vec ℕ Global) (v : WriterView) (words : List ℕ) (rest pools : Areas) (is : IsPurged names s (state_after s (DropOld generation name serial says block)) serial)
+module _ (names : List Mfa) (s : ServerState) (generation : ℕ) (name : AtomId) (serial : ℕ) (says : Bool) (block : RetiredRoom) (v : WriterView) (words : List ℕ) (rest pools : Areas) (is : IsPurged names s (changed_state s (DropOld generation name serial says block)) serial)
     (stands : StandFor names s rest v) (retires : RetiresInstance serial (length v.published) rest pools) (told : RetiresWords rest pools v (record v { words = words })) (some : 0 < length v.published) (owned : AreOf pools (record v { words = words })) where
   abbrev after : ServerState
-  after = state_after s (DropOld generation name serial says block)
+  after = changed_state s (DropOld generation name serial says block)
 
   abbrev now : WriterView
   now = record v { words = words }
@@ -225,10 +225,10 @@ module _ (names : List Mfa) (s : ServerState) (generation : ℕ) (name : AtomId)
   }
 
 -- so the state that has dropped it may be published over the blocks of the newest generation
-module _ (names : List Mfa) (s : ServerState) (generation : ℕ) (name : AtomId) (serial : ℕ) (says : Bool) (block : Vec ℕ Global) (rest pools : Areas) (before after : WriterView) (sound : IsSound s) (fits : Fits s (DropOld generation name serial says block)) (stands : StandFor names s rest before) (was : AreOf rest before)
+module _ (names : List Mfa) (s : ServerState) (generation : ℕ) (name : AtomId) (serial : ℕ) (says : Bool) (block : RetiredRoom) (rest pools : Areas) (before after : WriterView) (sound : IsSound s) (fits : Fits s (DropOld generation name serial says block)) (stands : StandFor names s rest before) (was : AreOf rest before)
     (d : HasRetired serial rest before pools after) where
   abbrev t : ServerState
-  t = state_after s (DropOld generation name serial says block)
+  t = changed_state s (DropOld generation name serial says block)
 
   abbrev dropped : Areas
   dropped = with_retired d.area (length before.published) rest

@@ -13,11 +13,11 @@ use Rattle.mod_core.specs.declared.code.Module.{Module}
 use Rattle.area_core.specs.Blocks.{Among}
 use Rattle.server_core.specs.declared.change.Change.{Change}
 use Rattle.server_core.specs.declared.change.Change.TheVariants.{BringIn, MakeOld}
-use Rattle.server_core.specs.Decided.{Fits, made}
+use Rattle.server_core.specs.Decided.{Fits, change_made}
 use Rattle.server_core.specs.Generations.{function_ref}
 use Rattle.server_core.specs.ServerState.{Entry, IsSound, ServerState, dispatch_of, export_of}
 use Rattle.change_laws.specs.Calls.{DeletedIsNotReached, DeletesLeaveOthers, LoadsAreReached, LoadsLeaveOthers, OthersLeaveCalls}
-use Rattle.code_index.specs.Exports.{function_of}
+use Rattle.code_index.specs.Exports.{function_ref_of}
 use Rattle.literal_areas.specs.declared.areas.Areas.{Areas}
 use Rattle.literal_areas.specs.Blocks.{with_area}
 use Rattle.literal_areas.proofs.Serials.{serial_here}
@@ -99,13 +99,13 @@ serial_taken (a ∷ taken) pools (suc i) area were at = let behind = serial_take
 
 -- it reaches this, in an area of the pools
 pub record Reaches (s after : ServerState) (pools : Areas) (to : Mfa) (r : Option CodeRef) : Type 0 where
-  pub same : reached_in_state after to ≡ option_map function_of r
+  pub same : reached_in_state after to ≡ option_map function_ref_of r
   pub placed : (at : CodeRef) → r ≡ Some at → Among (areas_in pools) at.area
 
-in_area : (code : Module) (area : AreaRef) (serial : ℕ) (to : Mfa) → area.serial ≡ serial → option_map function_ref (option_map {U = Entry} (λ i. record { serial = serial; function = i }) (export_of code to)) ≡ option_map function_of (export_in to code area)
+in_area : (code : Module) (area : AreaRef) (serial : ℕ) (to : Mfa) → area.serial ≡ serial → option_map function_ref (option_map {U = Entry} (λ i. record { serial = serial; function = i }) (export_of code to)) ≡ option_map function_ref_of (export_in to code area)
 in_area code area serial to is = by_export (export_of code to)
   where
-    by_export : (o : Option ℕ) → option_map function_ref (option_map {U = Entry} (λ i. record { serial = serial; function = i }) o) ≡ option_map function_of (option_map {U = CodeRef} (λ function. record { area = area; function = function }) o)
+    by_export : (o : Option ℕ) → option_map function_ref (option_map {U = Entry} (λ i. record { serial = serial; function = i }) o) ≡ option_map function_ref_of (option_map {U = CodeRef} (λ function. record { area = area; function = function }) o)
     by_export None = refl
     by_export (Some i) = ap (λ (n : ℕ). Some (record { serial = n; function = i })) (sym is)
 
@@ -121,23 +121,23 @@ module _ (laws : CallLaws) (s : ServerState) (sound : IsSound s) (taken : List A
   no_change after r e = absurd (cc)
 
   -- the change is about the name
-  pub changed_reaches : (change : Change) → Fits s change → (r : Option CodeRef) → reached_after change taken to ≡ Some r → Reaches s (made s change).state (with_areas taken rest) to r
+  pub changed_reaches : (change : Change) → Fits s change → (r : Option CodeRef) → reached_after change taken to ≡ Some r → Reaches s (change_made s change).state (with_areas taken rest) to r
   changed_reaches (BringIn generation modules areas versions) fits r e =
       let f = found_by modules.items taken to r e in
       let serial : f.area.serial ≡ s.next_serial + f.place = (let is = serial_taken taken rest f.place f.area were f.its in omega (arith, is, next)) in
       record {
-        same = ap (option_map function_ref) (laws.loaded s modules.items f.place f.code to sound fits.1 f.there f.name) ∙ in_area f.code f.area (s.next_serial + f.place) to serial ∙ ap (option_map function_of) (sym f.is);
+        same = ap (option_map function_ref) (laws.loaded s modules.items f.place f.code to sound fits.1 f.there f.name) ∙ in_area f.code f.area (s.next_serial + f.place) to serial ∙ ap (option_map function_ref_of) (sym f.is);
         placed = λ at is. subst (Among (areas_in (with_areas taken rest))) (its_area f.code f.area to at (sym f.is ∙ is))
             (stands_listed (with_areas taken rest) f.area (serial_here (with_areas taken rest) f.area.block (Live f.area.serial) (taken_live taken rest f.place f.area were f.its)));
       }
   changed_reaches (MakeOld generation name) fits r e = by_name (nat_eq name.0 to.«module».0) refl e
     where
-      by_name : (t : Bool) → nat_eq name.0 to.«module».0 ≡ t → cond t (Some None) None ≡ Some r → Reaches s (made s (MakeOld generation name)).state (with_areas taken rest) to r
+      by_name : (t : Bool) → nat_eq name.0 to.«module».0 ≡ t → cond t (Some None) None ≡ Some r → Reaches s (change_made s (MakeOld generation name)).state (with_areas taken rest) to r
       by_name false is e = absurd (cc)
       by_name true is e =
           let none : None ≡ r = some_same None r e in
           record {
-            same = ap (option_map function_ref) (laws.deleted s name.0 to (grind (arith, nat_tests))) ∙ ap (option_map function_of) none;
+            same = ap (option_map function_ref) (laws.deleted s name.0 to (grind (arith, nat_tests))) ∙ ap (option_map function_ref_of) none;
             placed = λ at is. absurd (no_code at (none ∙ is));
           }
         where
@@ -146,7 +146,7 @@ module _ (laws : CallLaws) (s : ServerState) (sound : IsSound s) (taken : List A
   changed_reaches change fits r e = no_change _ r e
 
   -- it is not
-  pub other_reaches : (change : Change) → length taken ≡ length (incoming change) → reached_after change taken to ≡ None → dispatch_of (made s change).state to ≡ dispatch_of s to
+  pub other_reaches : (change : Change) → length taken ≡ length (incoming change) → reached_after change taken to ≡ None → dispatch_of (change_made s change).state to ≡ dispatch_of s to
   other_reaches (BringIn generation modules areas versions) whole e =
       laws.not_loaded s modules.items to sound
       (λ k d within. none_by modules.items taken to e (let long = length-map modules.items instance in omega (arith, long, whole)) k _ (slice_get-get_or modules.items k d within))

@@ -11,7 +11,7 @@ use Rattle.area_core.specs.Step.{opening_published}
 use Rattle.marks.specs.declared.kept.LookKind.TheVariants.{Both}
 use Rattle.shared_words.specs.declared.view.WriterView.{WriterView}
 use Rattle.shared_words.specs.Slots.{IsClear}
-use Rattle.shared_words.specs.Views.{newest}
+use Rattle.shared_words.specs.Views.{newest_number}
 use Rattle.shared_words.proofs.ShownMembers.{there_is, within_get}
 use Rattle.progress_words.specs.Roots.{newest_of}
 use Rattle.progress_words.specs.Tokens.{written_by}
@@ -62,7 +62,7 @@ releasable names s rest pools w serial stands still retired clear =
           gone_uncalled p found.0 serial (since.3 g p at (omega (arith, later, far))) a among same;
       uncalled = λ a among same.
           let some : 0 < length w.published = omega (arith, within) in
-          gone_uncalled (newest_of w) found.0 serial (since.3 (newest w.published) (newest_of w) (there_is w.published (newest w.published) opening_published (omega (arith, some))) (omega (arith, later, within))) a among same;
+          gone_uncalled (newest_of w) found.0 serial (since.3 (newest_number w.published) (newest_of w) (there_is w.published (newest_number w.published) opening_published (omega (arith, some))) (omega (arith, later, within))) a among same;
     }
 
 placed_releasable : (names : List Mfa) (s : ServerState) (change : Change) (t : Tables) (taken : List AreaRef) (serial : ℕ) → HavePlaced names s change t taken → IsTrue (is_retired s serial) → IsClear (written_by t.writer) Both serial → IsReleasable serial t.pools (written_by t.writer)

@@ -14,9 +14,9 @@ use Rattle.server_core.specs.Generations.{generation_of}
 use Rattle.server_core.specs.declared.change.Change.{Change}
 use Rattle.server_core.specs.declared.change.Change.TheVariants.{BringIn, MakeOld}
 use Rattle.server_core.specs.CommandTable.{Outcome, with_released}
-use Rattle.server_core.specs.Decided.{IsNoRelease, made}
+use Rattle.server_core.specs.Decided.{IsNoRelease, change_made}
 use Rattle.server_core.specs.ServerState.{ServerState, dispatch_of}
-use Rattle.change_laws.specs.Changes.{Incoming, incoming, state_after}
+use Rattle.change_laws.specs.Changes.{Incoming, incoming, changed_state}
 use Rattle.change_laws.specs.Uses.{IsUsed}
 use Rattle.change_laws.proofs.AfterRelease.{later_made}
 use Rattle.change_laws.proofs.AreaUses.{used_stood}
@@ -149,26 +149,26 @@ module _ (pools : Areas) (w : WriterView) (area : AreaRef) (own : AreOf pools w)
           subst (λ (t : ServerState). serial < t.next_serial) (sym stands.newest_is.since.same) below
 
       -- what the state uses that the change leaves is another area
-      after_differ : (n : ℕ) → IsUsed (state_after s change) n → n ≢ serial
+      after_differ : (n : ℕ) → IsUsed (changed_state s change) n → n ≢ serial
       after_differ n used = by (used_stood s change n used)
         where
           by : IsUsed s n ⊎ (s.next_serial ≤ n) → n ≢ serial
           by (inl stood) same = used_differ names s serial rest area may.since is here apart w w.words w.kept w.looks stands n stood same
           by (inr past) same = let low = known in omega (arith, low, past, same)
 
-      module _ (other : IsNoRelease change) (p : Published) (up : IsUpcoming names (made (with_released s serial) change).state freed p) where
+      module _ (other : IsNoRelease change) (p : Published) (up : IsUpcoming names (change_made (with_released s serial) change).state freed p) where
         abbrev q : Published
-        q = record p { state = generation_of names (made s change).state; areas = areas_in pools }
+        q = record p { state = generation_of names (change_made s change).state; areas = areas_in pools }
 
-        calls : (to : Mfa) → dispatch_of (made (with_released s serial) change).state to ≡ dispatch_of (made s change).state to
+        calls : (to : Mfa) → dispatch_of (change_made (with_released s serial) change).state to ≡ dispatch_of (change_made s change).state to
         calls to = ap (λ (o : Outcome). dispatch_of o.state to) (later_made s serial change other)
 
         export_kept : (k : ℕ) → KeepsExport q p k
         export_kept k = record {
-          same = exported names (made s change).state (made (with_released s serial) change).state p up.state calls k ∙ sym (exported names (made s change).state (made s change).state q refl (λ to. refl) k);
+          same = exported names (change_made s change).state (change_made (with_released s serial) change).state p up.state calls k ∙ sym (exported names (change_made s change).state (change_made s change).state q refl (λ to. refl) k);
           placed = λ to a at among same.
               let there = listed_stands pools own.sound.sizes a among in
-              let used = reached_used names (made s change).state k to a.serial (sym (exported names (made s change).state (made (with_released s serial) change).state p up.state calls k) ∙ at) same in
+              let used = reached_used names (change_made s change).state k to a.serial (sym (exported names (change_made s change).state (change_made (with_released s serial) change).state p up.state calls k) ∙ at) same in
               let apart_here = own.sound.apart in
               let off = other_block names s serial pools area may.since is (retired_here pools w area own may serial is) apart_here a.block a.serial (after_differ a.serial used) there in
               subst (λ (areas : List AreaRef). Among areas a) (sym up.areas) (stands_listed freed a (serial_other pools area.block a.block (Retired serial may.since) Free (retired_here pools w area own may serial is) off ∙ there));
@@ -204,11 +204,11 @@ module _ (names : List Mfa) (serial : ℕ) (old new : Tables) (area : AreaRef) (
     placed = placed_released s change taken had.placed;
     whole = had.whole;
     exported = λ p up.
-        let freed_up = subst (λ (x : Areas). IsUpcoming names (made (with_released s serial) change).state x p) pools up in
+        let freed_up = subst (λ (x : Areas). IsUpcoming names (change_made (with_released s serial) change).state x p) pools up in
         let still = still_released old.index old.terms (written_by old.writer) area by_index by_terms (within old.pools (written_by old.writer) area own may) index_own terms_own in
         subst (λ (z : Staging × WriterView). Stages z.0 p z.1) (λ i. (sym index i, sym stored i))
         (stages_still old.pools (written_by old.writer) area own may names serial is s change had.placed.rest taken had.placed.placed had.placed.stands (no_release change had.code) p freed_up old.index alike
-        (had.exported (record p { state = generation_of names (made s change).state; areas = areas_in old.pools }) (record { state = refl; areas = refl })) still.staged);
+        (had.exported (record p { state = generation_of names (change_made s change).state; areas = areas_in old.pools }) (record { state = refl; areas = refl })) still.staged);
   }
 
   pub stages_released : indices.KeptByExports → indices.KeptByStores → terms.KeptByStores → IsIndexOf old.index (written_by old.writer) → IsTableOf old.terms (written_by old.writer) → StagesReleased names serial old new

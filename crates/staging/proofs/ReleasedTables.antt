@@ -10,17 +10,17 @@ use Rattle.term_core.specs.declared.atom.Mfa.{Mfa}
 use Rattle.area_core.specs.declared.table.KeptArea.{KeptArea}
 use Rattle.area_core.specs.declared.table.Published.{Published}
 use Rattle.area_core.specs.Blocks.{Among, IsForInstances}
-use Rattle.area_core.specs.Generations.{is_instance, is_key_area, is_retired}
+use Rattle.area_core.specs.Generations.{is_instance, is_key_area, is_retired_area}
 use Rattle.area_core.specs.Step.{opening_published}
-use Rattle.area_core.specs.Map.{block_place, breakpoint_at, breakpoint_place, doom_place, entry_at, retire_place, word_at}
+use Rattle.area_core.specs.Map.{block_place, breakpoint_at, breakpoint_place, doom_place, image_entry_at, retire_place, word_at}
 use Rattle.area_core.specs.Stores.{is_released_at}
 use Rattle.marks.specs.declared.kept.LookKind.TheVariants.{Both}
-use Rattle.marks.specs.Steps.{with_dropped}
+use Rattle.marks.specs.Steps.{with_drop_kept}
 use Rattle.shared_words.specs.declared.opening.Opening.{Opening}
 use Rattle.shared_words.specs.declared.view.WriterView.{WriterView}
 use Rattle.shared_words.specs.Drops.{drop_of}
 use Rattle.shared_words.specs.Publishing.{is_released, with_word}
-use Rattle.shared_words.specs.Views.{newest}
+use Rattle.shared_words.specs.Views.{newest_number}
 use Rattle.shared_words.proofs.ShownMembers.{there_is}
 use Rattle.progress_words.specs.Roots.{newest_of}
 use Rattle.progress_words.specs.Tokens.{IsWriterOf, written_by}
@@ -132,10 +132,10 @@ module _ (pools : Areas) (w : WriterView) (area : AreaRef) (own : AreOf pools w)
   released_here : (k : KeptArea) → Among w.kept k → k.area.block ≡ area.block → is_released w 0 k ≡ true
   released_here k among same =
       let some = may.published in
-      let found = get_at w.published (newest w.published) (omega (arith, some)) in
+      let found = get_at w.published (newest_number w.published) (omega (arith, some)) in
       let serial : k.area.serial ≡ area.serial = some_same k.area.serial area.serial (sym (own.kept k among) ∙ ap (serial_at pools) same ∙ serial_here pools area.block (Retired area.serial may.since) may.retired) in
-      let told = own.since area.block area.serial may.since (newest w.published) found.0 may.retired (omega (arith, some)) found.1 in
-      ap (λ (o : Option Published). is_released_at o 0 k) found.1 ∙ ap (is_retired found.0) serial ∙ told.retired
+      let told = own.since area.block area.serial may.since (newest_number w.published) found.0 may.retired (omega (arith, some)) found.1 in
+      ap (λ (o : Option Published). is_released_at o 0 k) found.1 ∙ ap (is_retired_area found.0) serial ∙ told.retired
 
   pub told : ReleasesWords area.block w (area_released area w)
   told = releases_words w area within own.all
@@ -151,8 +151,8 @@ module _ (pools : Areas) (w : WriterView) (area : AreaRef) (own : AreOf pools w)
     decisions = λ block function for few. inl (λ bp fits. decision_still bp block function);
     entries = λ k function among has.
         let fits = within in
-        let behind = block_behind k.area.block (entry_at function) in
-        told.others (block_place k.area.block (entry_at function)) (λ same. omega (arith, same, behind, fits)) (λ big same. omega (arith, same, behind, big));
+        let behind = block_behind k.area.block (image_entry_at function) in
+        told.others (block_place k.area.block (image_entry_at function)) (λ same. omega (arith, same, behind, fits)) (λ big same. omega (arith, same, behind, big));
     kept = λ k among. keeps.was k among;
     dropped = dropped;
     more = λ pair among. subst (λ (pairs : List Retirement). Among pairs pair) (sym (ap (λ (v : WriterView). v.pairs) told.same)) among;
@@ -168,8 +168,8 @@ module _ (pools : Areas) (w : WriterView) (area : AreaRef) (own : AreOf pools w)
       unused : (serial : ℕ) → serial ≡ area.serial → is_instance (newest_of w) serial ≡ false
       unused serial same =
           let some = may.published in
-          let there = there_is w.published (newest w.published) opening_published (omega (arith, some)) in
-          let gone = own.since area.block area.serial may.since (newest w.published) (newest_of w) may.retired (omega (arith, some)) there in
+          let there = there_is w.published (newest_number w.published) opening_published (omega (arith, some)) in
+          let gone = own.since area.block area.serial may.since (newest_number w.published) (newest_of w) may.retired (omega (arith, some)) there in
           ap (is_instance (newest_of w)) same ∙ left_off (is_instance (newest_of w) area.serial) (is_key_area (newest_of w) area.serial) gone.unused
 
       dropped : (k : KeptArea) → Among w.kept k → Among (area_released area w).kept k ⊎ ((IsForInstances k.area.block → HasNoDecisions (area_released area w) k.area.block) × (is_instance (newest_of w) k.area.serial ≡ false))
@@ -223,7 +223,7 @@ pub keeps_release : (serial : ℕ) (pools : Areas) (before after : WriterView) (
 keeps_release serial pools before after area own may is stored =
     let told = releases_words before area (use_within pools area.block (Retired area.serial may.since) own.sound.sizes may.retired) own.all in
     record {
-      looks = ap (λ (w : WriterView). w.looks) stored ∙ released_looks before area (use_within pools area.block (Retired area.serial may.since) own.sound.sizes may.retired) own.all ∙ ap (λ (n : ℕ). with_dropped before.looks (drop_of before Both n)) is;
+      looks = ap (λ (w : WriterView). w.looks) stored ∙ released_looks before area (use_within pools area.block (Retired area.serial may.since) own.sound.sizes may.retired) own.all ∙ ap (λ (n : ℕ). with_drop_kept before.looks (drop_of before Both n)) is;
       published = ap (λ (w : WriterView). w.published) (stored ∙ told.same);
       notes = ap (λ (w : WriterView). w.notes) (stored ∙ told.same);
       waits = waits_same before after (ap (λ (w : WriterView). w.pairs) (stored ∙ told.same));

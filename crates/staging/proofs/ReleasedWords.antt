@@ -11,7 +11,7 @@ use Rattle.area_core.specs.Map.{doom_place, retire_place, word_at}
 use Rattle.area_core.proofs.Places.{kind_doom, kind_retire, word_here, word_there}
 use Rattle.area_core.proofs.Tests.{filter_apart, filter_gives}
 use Rattle.marks.specs.declared.kept.LookKind.TheVariants.{Both}
-use Rattle.marks.specs.Steps.{with_dropped}
+use Rattle.marks.specs.Steps.{with_drop_kept}
 use Rattle.shared_words.specs.declared.view.WriterView.{WriterView}
 use Rattle.shared_words.specs.Drops.{drop_of, with_drop}
 use Rattle.shared_words.specs.Publishing.{is_released, kept_left, with_word}
@@ -66,15 +66,15 @@ module _ (w : WriterView) (area : AreaRef) (within : area.block < 320) (all : le
             subst (λ (v : WriterView). ReleasesWords area.block w (with_drop (drop_of w Both area.serial) v)) (sym is) (one small)
       ]
 
-  pub released_looks : (area_released area w).looks ≡ with_dropped w.looks (drop_of w Both area.serial)
+  pub released_looks : (area_released area w).looks ≡ with_drop_kept w.looks (drop_of w Both area.serial)
   released_looks =
-      elim (cases_lt area.block 64) as (λ _. (area_released area w).looks ≡ with_dropped w.looks (drop_of w Both area.serial)) [
+      elim (cases_lt area.block 64) as (λ _. (area_released area w).looks ≡ with_drop_kept w.looks (drop_of w Both area.serial)) [
         | inl big ↦
             let is : words_cleared area.block w ≡ with_word (doom_place area.block) 0 first = rw (lt-ltb area.block 64 big) refl in
-            ap (λ (v : WriterView). with_dropped v.looks (drop_of w Both area.serial)) is
+            ap (λ (v : WriterView). with_drop_kept v.looks (drop_of w Both area.serial)) is
         | inr small ↦
             let is : words_cleared area.block w ≡ first = rw (le-ltb area.block 64 small) refl in
-            ap (λ (v : WriterView). with_dropped v.looks (drop_of w Both area.serial)) is
+            ap (λ (v : WriterView). with_drop_kept v.looks (drop_of w Both area.serial)) is
       ]
 
 -- ---- what is kept

@@ -22,7 +22,7 @@ use Rattle.shared_words.specs.declared.view.WriterView.{WriterView}
 use Rattle.progress_words.specs.Roots.{newest_of}
 use Rattle.server_core.specs.declared.change.Change.{Change}
 use Rattle.server_core.specs.declared.change.Change.TheVariants.{HoldWord, HoldArea, Forget}
-use Rattle.server_core.specs.Decided.{Fits, made}
+use Rattle.server_core.specs.Decided.{Fits, change_made}
 use Rattle.server_core.specs.Generations.{generation_of, holding_of, key_term}
 use Rattle.server_core.specs.ServerState.{IsShortTerm, ServerState, key_area}
 use Rattle.literal_areas.specs.declared.areas.Areas.{Areas}
@@ -110,7 +110,7 @@ module _ (names : List Mfa) (s : ServerState) (rest pools : Areas) (w : WriterVi
     area_word_stands : is_term_word q (holding_of term (Some s.next_serial)) (area_word a) ≡ true
     area_word_stands = subst (λ (n : ℕ). is_term_word q (holdings.Area n) (area_word a) ≡ true) serial_is (area_stands q a came low)
 
-  pub one_taken : (change : Change) (taken : List AreaRef) (staged : changes.Change) → ArePlaced (incoming change) rest pools w taken → length taken ≡ length (incoming change) → q.state ≡ generation_of names (made s change).state → key_change change taken ≡ Some staged → ChangesTo staged (newest_of w) q
+  pub one_taken : (change : Change) (taken : List AreaRef) (staged : changes.Change) → ArePlaced (incoming change) rest pools w taken → length taken ≡ length (incoming change) → q.state ≡ generation_of names (change_made s change).state → key_change change taken ≡ Some staged → ChangesTo staged (newest_of w) q
   one_taken (HoldWord generation key term kept retired) taken staged placed whole state is =
       subst (λ (c : changes.Change). ChangesTo c (newest_of w) q) (some_same (Put key (immediate_word term)) staged is)
       (put_changes (newest_of w) q s.keys key (plain term) None (immediate_word term) once keys (ap (λ (g : Generation). g.keys) state)

@@ -17,7 +17,7 @@ use Rattle.shared_words.specs.declared.view.WriterView.{WriterView}
 use Rattle.progress_words.specs.Roots.{newest_of}
 use Rattle.progress_words.specs.Tokens.{written_by}
 use Rattle.server_core.specs.declared.change.Change.{Change}
-use Rattle.server_core.specs.Decided.{Fits, made}
+use Rattle.server_core.specs.Decided.{Fits, change_made}
 use Rattle.server_core.specs.Generations.{function_ref}
 use Rattle.server_core.specs.ServerState.{Entry, IsSound, ServerState, code_of, current_of, dispatch_of, empty_state, export_of}
 use Rattle.code_index.specs.Exports.{ExportsWith, export_at}
@@ -106,12 +106,12 @@ pub record StagesOn (table : TableId) (opening : Opening) (names : List Mfa) (s 
   pub staged : IsStaged now.index
   pub published : (written_by now.writer).published ≡ (written_by first.writer).published
   pub known : KeepsKnown (written_by first.writer) (written_by now.writer)
-  pub leads : (p : Published) → p.areas ≡ areas_in now.pools → Stages now.index (between names s (made s change).state n p) (written_by now.writer)
+  pub leads : (p : Published) → p.areas ≡ areas_in now.pools → Stages now.index (between names s (change_made s change).state n p) (written_by now.writer)
 
 module _ (table : TableId) (opening : Opening) (names : List Mfa) (s : ServerState) (change : Change) (first old new : Tables) (taken : List AreaRef) (tables : AreTablesOf table opening new) (exports : new.exports ≡ old.exports) (terms : new.terms ≡ old.terms) (pools : new.pools ≡ old.pools) (patch : new.patch ≡ old.patch) (staged : IsStaged new.index)
     (stores : StoresExports (written_by old.writer) (written_by new.writer)) (alike : indices.KeptByExports) where
   abbrev after : ServerState
-  after = (made s change).state
+  after = (change_made s change).state
 
   published : (written_by new.writer).published ≡ (written_by old.writer).published
   published = ap (λ (w : WriterView). w.published) stores.same
@@ -184,4 +184,4 @@ module _ (table : TableId) (opening : Opening) (names : List Mfa) (s : ServerSta
 
 -- all of them
 pub stages_whole : (table : TableId) (opening : Opening) (names : List Mfa) (s : ServerState) (change : Change) (first now : Tables) (taken : List AreaRef) → StagesOn table opening names s change first now taken 1024 → AreExported names s change now
-stages_whole table opening names s change first now taken h p is = all_changed names s (made s change).state now.index (written_by now.writer) p is.state (h.leads p is.areas)
+stages_whole table opening names s change first now taken h p is = all_changed names s (change_made s change).state now.index (written_by now.writer) p is.state (h.leads p is.areas)

@@ -22,7 +22,7 @@ use Rattle.progress_words.specs.Roots.{newest_of}
 use Rattle.progress_words.specs.Tokens.{IsWriterOf, written_by}
 use Rattle.server_core.specs.declared.change.Change.{Change}
 use Rattle.server_core.specs.declared.change.Change.TheVariants.{HoldWord, HoldArea, Forget}
-use Rattle.server_core.specs.Decided.{made}
+use Rattle.server_core.specs.Decided.{change_made}
 use Rattle.server_core.specs.Generations.{key_term}
 use Rattle.server_core.specs.ServerState.{Persistent, ServerState, persistent_among}
 use Rattle.code_index.specs.Laws as indices
@@ -30,8 +30,8 @@ use Rattle.code_index.specs.Staging.{IsIndexOf}
 use Rattle.literal_areas.specs.Laws as pools
 use Rattle.literal_areas.specs.Owned.{AreOf}
 use Rattle.term_table.specs.declared.change.Change as changes
-use Rattle.term_table.specs.Built.{counts, held_in}
-use Rattle.term_table.specs.Keys.{ChangesTo, key_of, value_of}
+use Rattle.term_table.specs.Built.{key_count, held_in}
+use Rattle.term_table.specs.Keys.{ChangesTo, key_of, change_value}
 use Rattle.term_table.specs.Staged.{HasStaged}
 use Rattle.term_table.specs.Tables.{IsTableOf, Stages, active_table, staging_table, words_in}
 use Rattle.staging.specs.declared.tables.Tables.{Tables}
@@ -52,7 +52,7 @@ use Rattle.staging.proofs.TableStores.{StoresTable, index_table, owned_table, pl
 
 -- a key is found where it holds a term
 module _ (block : ℕ → ℕ) (p : Published) (ps : List Persistent) (key : ℕ) (terms : TermsStand block p) (keys : p.state.keys ≡ map key_term ps) where
-  counted_found : (o : Option ℕ) (h : Option Persistent) → found_in block key ≡ o → persistent_among ps key ≡ h → counts o ≡ held_one h
+  counted_found : (o : Option ℕ) (h : Option Persistent) → found_in block key ≡ o → persistent_among ps key ≡ h → key_count o ≡ held_one h
   counted_found None None found held = refl
   counted_found (Some word) (Some h) found held = refl
   counted_found None (Some h) found held =
@@ -67,7 +67,7 @@ module _ (block : ℕ → ℕ) (p : Published) (ps : List Persistent) (key : ℕ
       same_key : (k : KeyTerm) → is_word_of p key word k ≡ true → k.key.0 ≡ key
       same_key k e = eqb-true k.key.0 key (and_parts (k.key.0 == key) (is_term_word p k.holding word) e).0
 
-  pub found_counts : counts (found_in block key) ≡ held_one (persistent_among ps key)
+  pub found_counts : key_count (found_in block key) ≡ held_one (persistent_among ps key)
   found_counts = counted_found (found_in block key) (persistent_among ps key) refl refl
 
 -- ---- the staged change
@@ -120,16 +120,16 @@ module _ (table : TableId) (opening : Opening) (old new : Tables) (staged : chan
     held_before : held_in (words_in before.words (active_table before)) 512 ≡ length s.keys
     held_before = was.terms.counted ∙ ap length keys ∙ length-map s.keys key_term
 
-    found_before : (key : ℕ) → counts (found_in (words_in before.words (active_table before)) key) ≡ held_one (persistent_among s.keys key)
+    found_before : (key : ℕ) → key_count (found_in (words_in before.words (active_table before)) key) ≡ held_one (persistent_among s.keys key)
     found_before key = found_counts (words_in before.words (active_table before)) (newest_of before) s.keys key was.terms.active keys
 
     -- the sum that the table tells
-    told : (c : changes.Change) → staged ≡ c → held_in (words_in after.words (staging_table before)) 512 + held_one (persistent_among s.keys (key_of c)) ≡ length s.keys + counts (value_of c)
+    told : (c : changes.Change) → staged ≡ c → held_in (words_in after.words (staging_table before)) 512 + held_one (persistent_among s.keys (key_of c)) ≡ length s.keys + key_count (change_value c)
     told c same = let sum = has.counted in let held = held_before in let found = found_before (key_of c) in
-        subst (λ (d : changes.Change). held_in (words_in after.words (staging_table before)) 512 + held_one (persistent_among s.keys (key_of d)) ≡ length s.keys + counts (value_of d)) same
+        subst (λ (d : changes.Change). held_in (words_in after.words (staging_table before)) 512 + held_one (persistent_among s.keys (key_of d)) ≡ length s.keys + key_count (change_value d)) same
         (let there = found_before (key_of staged) in omega (arith, sum, held, there))
 
-    counted_for : (change : Change) (taken : List AreaRef) → key_change change taken ≡ Some staged → held_in (words_in after.words (staging_table before)) 512 ≡ length (made s change).state.keys
+    counted_for : (change : Change) (taken : List AreaRef) → key_change change taken ≡ Some staged → held_in (words_in after.words (staging_table before)) 512 ≡ length (change_made s change).state.keys
     counted_for (HoldWord generation key term kept retired) taken is =
         let sum = told _ (sym (some_same _ staged is)) in let long = length_put s.keys (record { key = key.0; term = plain term; area = None }) in omega (arith, sum, long)
     counted_for (HoldArea generation key term kept blocks places retired) (a ∷ taken) is =

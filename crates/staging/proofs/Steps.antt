@@ -6,7 +6,7 @@ use Rattle.area_core.specs.Step.{opening_published}
 use Rattle.progress_words.specs.Tokens.{written_by}
 use Rattle.server_core.specs.declared.change.Change.{Change}
 use Rattle.server_core.specs.declared.change.Change.TheVariants.{BringIn, MakeOld, HoldWord, HoldArea, Forget}
-use Rattle.server_core.specs.Decided.{made}
+use Rattle.server_core.specs.Decided.{change_made}
 use Rattle.server_core.specs.Generations.{generation_of}
 use Rattle.server_core.specs.ServerState.{ServerState}
 use Rattle.breakpoints.specs.declared.patch.Patch.{Patch}
@@ -28,7 +28,7 @@ key_left change staged other =
 
 -- the generation that comes next, over some root
 abbrev next_of : List Mfa → ServerState → Change → Tables → Published
-next_of names s change t = record opening_published { state = generation_of names (made s change).state; areas = areas_in t.pools }
+next_of names s change t = record opening_published { state = generation_of names (change_made s change).state; areas = areas_in t.pools }
 
 -- where exports are staged, something is
 pub exports_staged : (names : List Mfa) (s : ServerState) (change : Change) (t : Tables) → AreExported names s change t → t.index ≡ Nothing → ⊥

@@ -5,7 +5,7 @@ use Rattle.term_core.specs.declared.area.AreaRef.{AreaRef}
 use Rattle.term_core.specs.declared.atom.Mfa.{Mfa}
 use Rattle.area_core.specs.declared.table.KeptArea.{KeptArea}
 use Rattle.area_core.specs.Blocks.{Among}
-use Rattle.area_core.specs.Map.{block_place, breakpoint_at, doom_place, entry_at, retire_place, term_place, word_at}
+use Rattle.area_core.specs.Map.{block_place, breakpoint_at, doom_place, image_entry_at, retire_place, term_place, word_at}
 use Rattle.shared_words.specs.declared.view.WriterView.{WriterView}
 use Rattle.progress_words.specs.Needs.{HasLoadedCounter}
 use Rattle.server_core.specs.ServerState.{ServerState}
@@ -64,7 +64,7 @@ table_beside table old new areas stores = record {
       let at = breakpoint_at block function in
       stores.others (block_place (3 + bp) at) (front table (block_place (3 + bp) at) stores.fits (block_below (3 + bp) at (omega (arith, low)) (at_fits block function for few)));
   entries = λ k function among has.
-      stores.others (block_place k.area.block (entry_at function)) (behind table (block_place k.area.block (entry_at function)) stores.fits (block_above k.area.block (entry_at function) (areas k among)));
+      stores.others (block_place k.area.block (image_entry_at function)) (behind table (block_place k.area.block (image_entry_at function)) stores.fits (block_above k.area.block (image_entry_at function) (areas k among)));
   same = stores.same;
 }
 

@@ -7,7 +7,7 @@ use Rattle.shared_words.specs.declared.opening.Opening.{Opening}
 use Rattle.progress_words.specs.declared.answers.NotYet.{NotYet}
 use Rattle.progress_words.specs.Tokens.{written_by}
 use Rattle.server_core.specs.declared.change.Change.{Change}
-use Rattle.server_core.specs.Decided.{made}
+use Rattle.server_core.specs.Decided.{change_made}
 use Rattle.server_core.specs.ServerState.{ServerState}
 use Rattle.breakpoints.specs.declared.patch.Patch.{Patch}
 use Rattle.breakpoints.specs.declared.patch.Phase.{Phase}
@@ -80,6 +80,6 @@ waits_from names s change first now new stage answer same before need waits = re
 
 -- whatever the answer is
 pub traced_from : (names : List Mfa) (s : ServerState) (change : Change) (first now new : Tables) (stage : Stage) (step : Step) → (written_by now.writer).published ≡ (written_by first.writer).published → NeedGoesOn first now → NeedGoesOn first new → TraceAnswers names s change now new stage step → TraceAnswers names s change first new stage step
-traced_from names s change first now new stage (steps.Published generation) same before need said = switched_from names (made s change).state first now new generation same said
+traced_from names s change first now new stage (steps.Published generation) same before need said = switched_from names (change_made s change).state first now new generation same said
 traced_from names s change first now new stage (steps.NotYet answer) same before need said = waits_from names s change first now new stage answer same before need said
 traced_from names s change first now new stage steps.AwaitRelease same before need said = said

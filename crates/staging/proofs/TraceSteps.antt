@@ -28,7 +28,7 @@ use Rattle.breakpoints.specs.Patches.{IsPatchOf, IsUnpublished}
 use Rattle.breakpoints.specs.Switched.{MaySwitch, PatchAnswers, PatchMoves, PatchSwitches, PatchWaits, switched_over}
 use Rattle.breakpoints.proofs.Spots.{behind_fits}
 use Rattle.change_laws.specs.Breakpoints.{TracesInCode}
-use Rattle.change_laws.specs.Changes.{state_after}
+use Rattle.change_laws.specs.Changes.{changed_state}
 use Rattle.change_laws.specs.Uses.{IsUsed}
 use Rattle.code_index.specs.Exports.{LeadTo}
 use Rattle.code_index.specs.Laws as index_laws
@@ -64,12 +64,12 @@ use Rattle.staging.proofs.Traced.{function_of, trace_comes, trace_current, trace
 
 -- ---- before the store of the root
 
-module _ (names : List Mfa) (s : ServerState) (change : Change) (table : TableId) (opening : Opening) (t : Tables) (own : AreTablesOf table opening t) (sound : IsSound s) (fits : Fits s change) (code : TracesInCode s change) (numbered : AreNumbered names (state_after s change)) (had : IsPatched names s change t) (z : Patch) (is : t.patch ≡ Some z) where
+module _ (names : List Mfa) (s : ServerState) (change : Change) (table : TableId) (opening : Opening) (t : Tables) (own : AreTablesOf table opening t) (sound : IsSound s) (fits : Fits s change) (code : TracesInCode s change) (numbered : AreNumbered names (changed_state s change)) (had : IsPatched names s change t) (z : Patch) (is : t.patch ≡ Some z) where
   abbrev w : WriterView
   w = written_by t.writer
 
   abbrev after : ServerState
-  after = state_after s change
+  after = changed_state s change
 
   abbrev p : Published
   p = switched_over w (generation_of names after) (areas_in t.pools)

@@ -10,7 +10,7 @@ use Rattle.term_core.specs.Image as images
 use Rattle.mod_core.specs.declared.code.Module.{Module}
 use Rattle.area_core.specs.declared.table.Published.{Published}
 use Rattle.area_core.specs.Blocks.{Among}
-use Rattle.area_core.specs.Generations.{functions_of, has_function}
+use Rattle.area_core.specs.Generations.{functions_in_image, has_function}
 use Rattle.shared_words.specs.declared.view.WriterView.{WriterView}
 use Rattle.progress_words.specs.Roots.{newest_of}
 use Rattle.server_core.specs.declared.change.Change.{Change}
@@ -24,8 +24,8 @@ use Rattle.breakpoints.specs.declared.patch.Phase.TheVariants.{Begun}
 use Rattle.breakpoints.specs.Indices.{BreakpointsRest}
 use Rattle.breakpoints.specs.Patches.{IsPatchOf, IsPatchable, PhaseStands}
 use Rattle.breakpoints.specs.Switched.{TracesWith}
-use Rattle.change_laws.specs.Breakpoints.{IsFunctionOf, KnowsItsCode, TracesInCode}
-use Rattle.change_laws.specs.Changes.{state_after}
+use Rattle.change_laws.specs.Breakpoints.{IsFunctionOfArea, KnowsItsCode, TracesInCode}
+use Rattle.change_laws.specs.Changes.{changed_state}
 use Rattle.change_laws.specs.Uses.{IsCurrentCode}
 use Rattle.change_laws.proofs.KeptTraced.{traced_since}
 use Rattle.change_laws.proofs.KnownCode.{knows_after}
@@ -62,7 +62,7 @@ trace_lives names s change pools w stands is code = absurd is
 
 -- ---- the function
 
-moved : (s : ServerState) (a b : CodeRef) → entry_of a ≡ entry_of b → IsFunctionOf s a → IsFunctionOf s b
+moved : (s : ServerState) (a b : CodeRef) → entry_of a ≡ entry_of b → IsFunctionOfArea s a → IsFunctionOfArea s b
 moved s a b same f =
     let serial = ap (λ (e : Entry). e.serial) same in
     let function = ap (λ (e : Entry). e.function) same in
@@ -74,12 +74,12 @@ moved s a b same f =
     }
 
 -- the patch is of a function of current code
-pub function_of : (s : ServerState) (change : Change) (x : Patch) → IsPatchFor change x → TracesInCode s change → IsFunctionOf s x.at
+pub function_of : (s : ServerState) (change : Change) (x : Patch) → IsPatchFor change x → TracesInCode s change → IsFunctionOfArea s x.at
 function_of s (SetTrace generation at traced) x of code = moved s at x.at (sym of.0) code
 function_of s (ClearTrace generation at) x of code = moved s at x.at (sym of.0) code
 function_of s change x of code = absurd of
 
-module _ (names : List Mfa) (s : ServerState) (pools : Areas) (w : WriterView) (stands : StandFor names s pools w) (at : CodeRef) (f : IsFunctionOf s at) (live : IsLive pools at.area) where
+module _ (names : List Mfa) (s : ServerState) (pools : Areas) (w : WriterView) (stands : StandFor names s pools w) (at : CodeRef) (f : IsFunctionOfArea s at) (live : IsLive pools at.area) where
   here : Stands pools at.area
   here = serial_here pools at.area.block (Live at.area.serial) live
 
@@ -93,8 +93,8 @@ module _ (names : List Mfa) (s : ServerState) (pools : Areas) (w : WriterView) (
 
   has : has_function (record { area = at.area; words = kept.0 }) at.function ≡ true
   has =
-      and_from (nat_lt at.area.block 64) (nat_lt at.function (functions_of kept.0)) (lt-ltb at.area.block 64 (stands.placed.instances at.area f.code here f.is).last)
-      (ap (λ (ws : List ℕ). nat_lt at.function (functions_of ws)) image_is ∙ lt-ltb at.function (length f.code.functions) f.has)
+      and_from (nat_lt at.area.block 64) (nat_lt at.function (functions_in_image kept.0)) (lt-ltb at.area.block 64 (stands.placed.instances at.area f.code here f.is).last)
+      (ap (λ (ws : List ℕ). nat_lt at.function (functions_in_image ws)) image_is ∙ lt-ltb at.function (length f.code.functions) f.has)
 
   -- it can be patched
   pub patchable : IsPatchable w at
@@ -157,25 +157,25 @@ module _ (names : List Mfa) (s : ServerState) (pools : Areas) (w : WriterView) (
   }
 
 -- it comes next
-pub trace_comes : (names : List Mfa) (s : ServerState) (change : Change) (pools : Areas) (w : WriterView) (x : Patch) → IsPatchFor change x → IsSound s → Fits s change → TracesInCode s change → AreNumbered names (state_after s change) → StandFor names s pools w → AreOf pools w → ComesNext names (state_after s change) pools w
+pub trace_comes : (names : List Mfa) (s : ServerState) (change : Change) (pools : Areas) (w : WriterView) (x : Patch) → IsPatchFor change x → IsSound s → Fits s change → TracesInCode s change → AreNumbered names (changed_state s change) → StandFor names s pools w → AreOf pools w → ComesNext names (changed_state s change) pools w
 trace_comes names s (SetTrace generation at traced) pools w x of sound fits code numbered stands owned =
-    comes_after names s pools w stands owned (state_after s (SetTrace generation at traced)).traced (s.generation + 1) (change_sound s (SetTrace generation at traced) sound fits) (knows_after s (SetTrace generation at traced) sound fits code.current stands.knows) numbered
+    comes_after names s pools w stands owned (changed_state s (SetTrace generation at traced)).traced (s.generation + 1) (change_sound s (SetTrace generation at traced) sound fits) (knows_after s (SetTrace generation at traced) sound fits code.current stands.knows) numbered
 trace_comes names s (ClearTrace generation at) pools w x of sound fits code numbered stands owned =
-    comes_after names s pools w stands owned (state_after s (ClearTrace generation at)).traced (s.generation + 1) (change_sound s (ClearTrace generation at) sound fits) (knows_after s (ClearTrace generation at) sound fits tt stands.knows) numbered
+    comes_after names s pools w stands owned (changed_state s (ClearTrace generation at)).traced (s.generation + 1) (change_sound s (ClearTrace generation at) sound fits) (knows_after s (ClearTrace generation at) sound fits tt stands.knows) numbered
 trace_comes names s change pools w x of sound fits code numbered stands owned = absurd of
 
 -- its current code is that of before, and so are its keys and what calls reach
-pub trace_current : (s : ServerState) (change : Change) (x : Patch) (serial : ℕ) → IsPatchFor change x → IsCurrentCode s serial → IsCurrentCode (state_after s change) serial
+pub trace_current : (s : ServerState) (change : Change) (x : Patch) (serial : ℕ) → IsPatchFor change x → IsCurrentCode s serial → IsCurrentCode (changed_state s change) serial
 trace_current s (SetTrace generation at traced) x serial of now = now
 trace_current s (ClearTrace generation at) x serial of now = now
 trace_current s change x serial of now = absurd of
 
 -- a generation of it traces what the newest one traces, but for the function
-pub traces_with : (names : List Mfa) (s : ServerState) (change : Change) (x : Patch) (p q : Published) → IsPatchFor change x → IsShownBy names s p → q.state ≡ generation_of names (state_after s change) → TracesWith x.at x.on p q
+pub traces_with : (names : List Mfa) (s : ServerState) (change : Change) (x : Patch) (p q : Published) → IsPatchFor change x → IsShownBy names s p → q.state ≡ generation_of names (changed_state s change) → TracesWith x.at x.on p q
 traces_with names s (SetTrace generation at traced) x p q of shown shows serial function =
-    shown_traced names (state_after s (SetTrace generation at traced)) q shows serial function ∙ traced_since s (SetTrace generation at traced) (entry_in serial function)
+    shown_traced names (changed_state s (SetTrace generation at traced)) q shows serial function ∙ traced_since s (SetTrace generation at traced) (entry_in serial function)
     ∙ (λ i. cond (is_same_entry (entry_in serial function) (sym of.0 i)) (sym of.1 i) (sym (newest_traced names s p shown serial function) i))
 traces_with names s (ClearTrace generation at) x p q of shown shows serial function =
-    shown_traced names (state_after s (ClearTrace generation at)) q shows serial function ∙ traced_since s (ClearTrace generation at) (entry_in serial function)
+    shown_traced names (changed_state s (ClearTrace generation at)) q shows serial function ∙ traced_since s (ClearTrace generation at) (entry_in serial function)
     ∙ (λ i. cond (is_same_entry (entry_in serial function) (sym of.0 i)) (sym of.1 i) (sym (newest_traced names s p shown serial function) i))
 traces_with names s change x p q of shown shows serial function = absurd of

@@ -10,7 +10,7 @@ use Rattle.area_core.specs.declared.table.Published.{Published}
 use Rattle.progress_words.specs.Tokens.{written_by}
 use Rattle.server_core.specs.declared.change.Change.{Change}
 use Rattle.server_core.specs.declared.change.Change.TheVariants.{BringIn, MakeOld}
-use Rattle.server_core.specs.Decided.{Fits, made}
+use Rattle.server_core.specs.Decided.{Fits, change_made}
 use Rattle.server_core.specs.ServerState.{ServerState, export_of}
 use Rattle.code_index.specs.Staging.{Stages}
 use Rattle.staging.specs.declared.tables.Tables.{Tables}
@@ -51,4 +51,4 @@ FitsSome change = (s : ServerState) × Fits s change
 
 -- what is staged is what the state exports that the change leaves
 abbrev pub AreExported : List Mfa → ServerState → Change → Tables → Type 0
-AreExported names s change t = (p : Published) → IsUpcoming names (made s change).state t.pools p → Stages t.index p (written_by t.writer)
+AreExported names s change t = (p : Published) → IsUpcoming names (change_made s change).state t.pools p → Stages t.index p (written_by t.writer)

@@ -10,7 +10,7 @@ use Rattle.progress_words.specs.Tokens.{written_by}
 use Rattle.server_core.specs.Generations.{generation_of}
 use Rattle.server_core.specs.declared.change.Change.{Change}
 use Rattle.server_core.specs.declared.change.Change.TheVariants.{HoldWord, HoldArea, Forget}
-use Rattle.server_core.specs.Decided.{made}
+use Rattle.server_core.specs.Decided.{change_made}
 use Rattle.server_core.specs.ServerState.{ServerState}
 use Rattle.term_table.specs.declared.change.Change as changes
 use Rattle.term_table.specs.declared.change.Change.TheVariants.{Put, Erase}
@@ -37,4 +37,4 @@ HasKeyWord change taken = Unit {0}
 
 -- what is staged is what the keys hold in the state that the change leaves
 abbrev pub AreKeyed : List Mfa → ServerState → Change → List AreaRef → Tables → Type 0
-AreKeyed names s change areas t = (p : Published) → p.state ≡ generation_of names (made s change).state → p.areas ≡ areas → Stages t.terms p (written_by t.writer)
+AreKeyed names s change areas t = (p : Published) → p.state ≡ generation_of names (change_made s change).state → p.areas ≡ areas → Stages t.terms p (written_by t.writer)

@@ -4,7 +4,7 @@ use Rattle.std.specs.Prelude.{◌≡◌, ℕ, List, IsTrue}
 use Rattle.term_core.specs.declared.area.AreaRef.{AreaRef}
 use Rattle.term_core.specs.declared.atom.Mfa.{Mfa}
 use Rattle.marks.specs.declared.kept.LookKind.TheVariants.{Both}
-use Rattle.marks.specs.Steps.{with_dropped}
+use Rattle.marks.specs.Steps.{with_drop_kept}
 use Rattle.shared_words.specs.declared.view.WriterView.{WriterView}
 use Rattle.shared_words.specs.Drops.{drop_of}
 use Rattle.shared_words.specs.Slots.{IsClear}
@@ -67,7 +67,7 @@ pub record StandStill (names : List Mfa) (old new : Tables) : Type 0 where
 
 -- that the area was dropped is kept, and nothing is published
 pub record KeepsRelease (serial : ℕ) (before after : WriterView) : Type 0 where
-  pub looks : after.looks ≡ with_dropped before.looks (drop_of before Both serial)
+  pub looks : after.looks ≡ with_drop_kept before.looks (drop_of before Both serial)
   pub published : after.published ≡ before.published
   pub notes : after.notes ≡ before.notes
   pub waits : KeepsWaits before after

@@ -9,7 +9,7 @@ use Rattle.area_core.specs.declared.table.Published.{Published}
 use Rattle.area_core.specs.Map.{doom_place}
 use Rattle.area_core.specs.Step.{to_publish}
 use Rattle.marks.specs.declared.kept.LookKind.TheVariants.{Frame}
-use Rattle.marks.specs.Steps.{with_dropped}
+use Rattle.marks.specs.Steps.{with_drop_kept}
 use Rattle.shared_words.specs.declared.view.WriterView.{WriterView}
 use Rattle.shared_words.specs.Publishing.{with_word}
 use Rattle.shared_words.specs.Drops.{AgreesWithLooks, drop_of, with_drop}
@@ -87,5 +87,5 @@ with_drop_of (Some area) before after = with_drop (drop_of before Frame area.ser
 -- the drop is kept besides, and agrees with each look that is kept; of another change nothing more is kept
 abbrev pub KeepsDrop : Change → WriterView → WriterView → Type 0
 KeepsDrop (DropOld generation name serial says retired) before after =
-    (after.looks ≡ with_dropped before.looks (drop_of before Frame serial)) × AgreesWithLooks before.looks (drop_of before Frame serial)
+    (after.looks ≡ with_drop_kept before.looks (drop_of before Frame serial)) × AgreesWithLooks before.looks (drop_of before Frame serial)
 KeepsDrop change before after = after.looks ≡ before.looks

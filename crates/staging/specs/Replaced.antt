@@ -10,7 +10,7 @@ use Rattle.shared_words.specs.Publishing.{with_word}
 use Rattle.progress_words.specs.Tokens.{written_by}
 use Rattle.server_core.specs.declared.change.Change.{Change}
 use Rattle.server_core.specs.declared.change.Change.TheVariants.{HoldWord, HoldArea, Forget}
-use Rattle.server_core.specs.Decided.{made}
+use Rattle.server_core.specs.Decided.{change_made}
 use Rattle.server_core.specs.ServerState.{ServerState, key_area}
 use Rattle.literal_areas.specs.declared.areas.Areas.{Areas}
 use Rattle.literal_areas.specs.Blocks.{IsLive, with_retired}
@@ -63,7 +63,7 @@ FormerRetired (Some serial) old before new after = HasRetired serial old before 
 
 -- as many keys are staged as the state has that the change leaves
 abbrev pub AreCounted : ServerState → Change → Tables → Type 0
-AreCounted s change t = held_in (words_in (written_by t.writer).words (staging_table (written_by t.writer))) BUCKETS ≡ length (made s change).state.keys
+AreCounted s change t = held_in (words_in (written_by t.writer).words (staging_table (written_by t.writer))) BUCKETS ≡ length (change_made s change).state.keys
 
 -- the key is staged, and what comes in has its area
 pub record HaveKeyed (names : List Mfa) (s : ServerState) (change : Change) (t : Tables) (taken : List AreaRef) : Type 0 where

@@ -5,14 +5,14 @@ use Rattle.term_core.specs.declared.area.AreaRef.{AreaRef}
 use Rattle.term_core.specs.declared.atom.Mfa.{Mfa}
 use Rattle.area_core.specs.declared.table.Published.{Published}
 use Rattle.shared_words.specs.declared.view.WriterView.{WriterView}
-use Rattle.shared_words.specs.Views.{newest}
+use Rattle.shared_words.specs.Views.{newest_number}
 use Rattle.progress_words.specs.declared.answers.NotYet.{NotYet}
 use Rattle.progress_words.specs.Needs.{HasTaken}
 use Rattle.progress_words.specs.Tokens.{written_by}
 use Rattle.server_core.specs.Generations.{generation_of}
 use Rattle.server_core.specs.declared.change.Change.{Change}
 use Rattle.server_core.specs.declared.change.Change.TheVariants.{BringIn, MakeOld, HoldWord, HoldArea, Forget, SetTrace, ClearTrace}
-use Rattle.server_core.specs.Decided.{made}
+use Rattle.server_core.specs.Decided.{change_made}
 use Rattle.server_core.specs.ServerState.{ServerState, entry_of}
 use Rattle.breakpoints.specs.declared.patch.Patch.{Patch}
 use Rattle.breakpoints.specs.Patches.{IsSettling, IsUnpublished, LoadsCounter, phase_need}
@@ -188,11 +188,11 @@ pub record IsLateFor (change : Change) (old new : Tables) (answer : NotYet) : Ty
   -- it is the one that the change waited for before this call, if it did
   pub kept : (need : ℕ) → awaited_by change old ≡ Some need → answer.need ≡ need
   -- that of a commit was taken while the newest generation was this one
-  pub taken : (need : ℕ) → commit_need new.index ≡ Some need → HasTaken (written_by new.writer) (newest (written_by new.writer).published) need
+  pub taken : (need : ℕ) → commit_need new.index ≡ Some need → HasTaken (written_by new.writer) (newest_number (written_by new.writer).published) need
 
 -- what each answer says
 abbrev pub StepAnswers : List Mfa → ServerState → Change → Tables → Tables → Stage → Step → Type 0
-StepAnswers names s change old new stage (steps.Published generation) = HasPublished names (made s change).state old new generation
+StepAnswers names s change old new stage (steps.Published generation) = HasPublished names (change_made s change).state old new generation
 StepAnswers names s change old new stage (steps.NotYet answer) = Waits names s change old new stage (IsLateFor change old new answer)
 StepAnswers names s change old new stage steps.AwaitRelease = Waits names s change old new stage (NextAwaitsRelease change new.pools (areas_at stage))
 

@@ -3,13 +3,13 @@
 use Rattle.std.specs.Prelude.{◌≡◌, ◌⊎◌, ℕ, ◌<◌, ◌≤◌, List, [], ◌∷◌, ◌++◌, length, Option, Some, None, Result, Ok, Err}
 use Rattle.term_core.specs.declared.atom.Mfa.{Mfa}
 use Rattle.area_core.specs.declared.table.Published.{Published}
-use Rattle.shared_words.specs.Views.{newest}
+use Rattle.shared_words.specs.Views.{newest_number}
 use Rattle.progress_words.specs.declared.answers.NotYet.{NotYet}
 use Rattle.progress_words.specs.Needs.{HasTaken}
 use Rattle.progress_words.specs.Tokens.{written_by}
 use Rattle.server_core.specs.declared.change.Change.{Change}
 use Rattle.server_core.specs.declared.change.Change.TheVariants.{SetTrace, ClearTrace}
-use Rattle.server_core.specs.Decided.{made}
+use Rattle.server_core.specs.Decided.{change_made}
 use Rattle.server_core.specs.Generations.{generation_of}
 use Rattle.server_core.specs.ServerState.{ServerState}
 use Rattle.breakpoints.specs.declared.patch.Patch.{Patch}
@@ -41,7 +41,7 @@ KeepsNeed old answer = (need : ℕ) → patch_need old.patch ≡ Some need → (
 pub record IsPatchLate (old new : Tables) (answer : NotYet) : Type 0 where
   pub late : IsLate old new answer
   pub awaited : patch_need new.patch ≡ Some answer.need
-  pub taken : HasTaken (written_by new.writer) (newest (written_by new.writer).published) answer.need
+  pub taken : HasTaken (written_by new.writer) (newest_number (written_by new.writer).published) answer.need
   -- it is the one that the patch waited for before this call, unless the counter has reached that one
   pub kept : KeepsNeed old answer
 
@@ -62,7 +62,7 @@ pub record HasSwitched (names : List Mfa) (s : ServerState) (old new : Tables) (
 
 -- what each answer of a step of such a change says
 abbrev pub TraceAnswers : List Mfa → ServerState → Change → Tables → Tables → Stage → Step → Type 0
-TraceAnswers names s change old new stage (steps.Published generation) = HasSwitched names (made s change).state old new generation
+TraceAnswers names s change old new stage (steps.Published generation) = HasSwitched names (change_made s change).state old new generation
 TraceAnswers names s change old new stage (steps.NotYet answer) = Waits names s change old new stage (IsPatchLate old new answer)
 TraceAnswers names s change old new stage steps.AwaitRelease = ⊥
 
@@ -95,7 +95,7 @@ pub record HasMoved (names : List Mfa) (s : ServerState) (change : Change) (old 
 -- what comes of a step of the patch
 abbrev pub AdvanceAnswers : List Mfa → ServerState → Change → Tables → Tables → PatchStep → Type 0
 AdvanceAnswers names s change old new patch_steps.Moved = HasMoved names s change old new
-AdvanceAnswers names s change old new (patch_steps.Published generation) = HasSwitched names (made s change).state old new generation
+AdvanceAnswers names s change old new (patch_steps.Published generation) = HasSwitched names (change_made s change).state old new generation
 AdvanceAnswers names s change old new patch_steps.Finished = ⊥
 
 -- ---- phases behind it

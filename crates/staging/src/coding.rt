@@ -2,7 +2,7 @@
 
 ghost use Rattle.std.specs.Prelude.{◌≡◌, ◌<◌, ◌^◌, length, IfOk, OnErr};
 ghost use Rattle.progress_words.specs.Tokens.{written_by};
-ghost use Rattle.server_core.specs.Decided.{Fits, made};
+ghost use Rattle.server_core.specs.Decided.{Fits, change_made};
 ghost use Rattle.server_core.specs.Generations.{AreNumbered};
 ghost use Rattle.code_index.specs.declared.index.Staging.TheVariants as indices;
 ghost use Rattle.staging.specs.Stages.{GoesOn, HavePlaced, HaveExported, IsCodeChange, StageStands, StepAnswers, stage_number};
@@ -37,7 +37,7 @@ pub fn step_code<K: Naming>(
     // the change is one of code that fits the server, and how far the words are with it
     requires fits { Fits server.now change.now }
     requires code { IsCodeChange change.now }
-    requires numbered { AreNumbered K.names (made server.now change.now).state }
+    requires numbered { AreNumbered K.names (change_made server.now change.now).state }
     requires stage { StageStands K.names server.now change.now tables.old stage }
     // there is a number for one generation more
     requires room { length (written_by tables.old.writer).published < 2 ^ 40 }
@@ -76,7 +76,7 @@ fn place_code<K: Naming>(
     // the change is one of code that fits the server; the first of what it brings in has areas, and no exports are staged
     requires fits { Fits server.now change.now }
     requires code { IsCodeChange change.now }
-    requires numbered { AreNumbered K.names (made server.now change.now).state }
+    requires numbered { AreNumbered K.names (change_made server.now change.now).state }
     requires placed { HavePlaced K.names server.now change.now tables.old areas.items }
     requires index { tables.old.index ≡ indices.Nothing }
     // there is a number for one generation more
@@ -120,7 +120,7 @@ fn commit_code<K: Naming>(
     // the change is one of code that fits the server, with its exports staged
     requires fits { Fits server.now change.now }
     requires code { IsCodeChange change.now }
-    requires numbered { AreNumbered K.names (made server.now change.now).state }
+    requires numbered { AreNumbered K.names (change_made server.now change.now).state }
     requires exported { HaveExported K.names server.now change.now tables.old areas.items }
     // there is a number for one generation more
     requires room { length (written_by tables.old.writer).published < 2 ^ 40 }

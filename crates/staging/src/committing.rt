@@ -2,7 +2,7 @@
 
 ghost use Rattle.std.specs.Prelude.{◌≡◌, ◌<◌, ◌^◌, length, IfErr, IfOk};
 ghost use Rattle.progress_words.specs.Tokens.{written_by};
-ghost use Rattle.server_core.specs.Decided.{Fits, made};
+ghost use Rattle.server_core.specs.Decided.{Fits, change_made};
 ghost use Rattle.server_core.specs.Generations.{AreNumbered};
 ghost use Rattle.staging.specs.Stages.{HasPublished, HaveExported, IsLateFor, Waits};
 ghost use Rattle.staging.specs.Whose.{AreTablesOf, KeepsKnown};
@@ -33,13 +33,13 @@ pub fn commit_exports<K: Naming>(
     requires fits { Fits server.now change.now }
     requires exported { HaveExported K.names server.now change.now tables.old areas.now.items }
     // each name has a number, and there is one for a generation more
-    requires numbered { AreNumbered K.names (made server.now change.now).state }
+    requires numbered { AreNumbered K.names (change_made server.now change.now).state }
     requires room { length (written_by tables.old.writer).published < 2 ^ 40 }
     // whose tables they are stays
     ensures tables { AreTablesOf shared.now.table.shared.table_id shared.now.table.shared.key tables.new }
     ensures names { tables.new.exports ≡ K.names }
     // the state that the change leaves is published, or a thread is waited for; the writer keeps what it knew
-    ensures published { IfOk result (λ generation. HasPublished K.names (made server.now change.now).state tables.old tables.new generation) }
+    ensures published { IfOk result (λ generation. HasPublished K.names (change_made server.now change.now).state tables.old tables.new generation) }
     ensures waits { IfErr result (λ answer. Waits K.names server.now change.now tables.old tables.new (stages.Exported areas.now) (IsLateFor change.now tables.old tables.new answer)) }
     ensures known { KeepsKnown (written_by tables.old.writer) (written_by tables.new.writer) }
 {

@@ -2,7 +2,7 @@
 
 ghost use Rattle.std.specs.Prelude.{◌≡◌, ◌≢◌, ◌<◌, ◌^◌, length, IfErr, IfOk, OnErr};
 ghost use Rattle.progress_words.specs.Tokens.{written_by};
-ghost use Rattle.server_core.specs.Decided.{Fits, made};
+ghost use Rattle.server_core.specs.Decided.{Fits, change_made};
 ghost use Rattle.server_core.specs.ServerState.{key_area};
 ghost use Rattle.code_index.specs.declared.index.Staging.TheVariants as indices;
 ghost use Rattle.term_table.specs.declared.answers.StageFault.TheVariants as faults;
@@ -261,7 +261,7 @@ fn publish_key<K: Naming>(
     ensures tables { AreTablesOf shared.now.table.shared.table_id shared.now.table.shared.key tables.new }
     ensures exports { tables.new.exports ≡ tables.old.exports }
     // the state that the change leaves is published, and the writer keeps what it knew
-    ensures published { HasPublished K.names (made server.now change.now).state tables.old tables.new result }
+    ensures published { HasPublished K.names (change_made server.now change.now).state tables.old tables.new result }
     ensures known { KeepsKnown (written_by tables.old.writer) (written_by tables.new.writer) }
 {
     exports_that_stay_are_staged();

@@ -9,7 +9,7 @@ ghost use Rattle.shared_words.specs.Drops.{AgreesWithLooks, drop_of, with_drop};
 ghost use Rattle.shared_words.specs.Publishing.{MayPublish, with_next};
 ghost use Rattle.shared_words.specs.Slots.{IsClear};
 ghost use Rattle.progress_words.specs.Tokens.{IsWriterOf, written_by};
-ghost use Rattle.server_core.specs.Decided.{Fits, made};
+ghost use Rattle.server_core.specs.Decided.{Fits, change_made};
 ghost use Rattle.literal_areas.specs.declared.blocks.BlockUse.TheVariants.{Live};
 ghost use Rattle.literal_areas.specs.Blocks.{IsLive, IsSound, use_of};
 ghost use Rattle.literal_areas.specs.Written.{IsUndoomed};
@@ -235,7 +235,7 @@ fn publish_announced<K: Naming>(
     ensures tables { AreTablesOf shared.now.table.shared.table_id shared.now.table.shared.key tables.new }
     ensures exports { tables.new.exports ≡ tables.old.exports }
     // the state that it leaves is published, the writer's notes and waits stay, and the drop is kept
-    ensures published { HasPublished K.names (made server.now change.now).state tables.old tables.new result }
+    ensures published { HasPublished K.names (change_made server.now change.now).state tables.old tables.new result }
     ensures notes { (written_by tables.new.writer).notes ≡ (written_by tables.old.writer).notes }
     ensures waits { KeepsWaits (written_by tables.old.writer) (written_by tables.new.writer) }
     ensures drop { KeepsDrop change.now (written_by tables.old.writer) (written_by tables.new.writer) }
@@ -277,7 +277,7 @@ pub fn publish_same<K: Naming>(
     ensures tables { AreTablesOf shared.now.table.shared.table_id shared.now.table.shared.key tables.new }
     ensures exports { tables.new.exports ≡ tables.old.exports }
     // the state that it leaves is published, and the writer's notes and waits stay
-    ensures published { HasPublished K.names (made server.now change.now).state tables.old tables.new result }
+    ensures published { HasPublished K.names (change_made server.now change.now).state tables.old tables.new result }
     ensures notes { (written_by tables.new.writer).notes ≡ (written_by tables.old.writer).notes }
     ensures waits { KeepsWaits (written_by tables.old.writer) (written_by tables.new.writer) }
     // the drop is kept

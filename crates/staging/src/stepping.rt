@@ -2,7 +2,7 @@
 
 ghost use Rattle.std.specs.Prelude.{◌≡◌, ◌<◌, ◌^◌, false, length, true, IfOk, OnErr};
 ghost use Rattle.progress_words.specs.Tokens.{written_by};
-ghost use Rattle.server_core.specs.Decided.{Fits, made};
+ghost use Rattle.server_core.specs.Decided.{Fits, change_made};
 ghost use Rattle.server_core.specs.Generations.{AreNumbered};
 ghost use Rattle.staging.specs.Stages.{AreAtRest, GoesOn, IsCodeChange, IsStaged, LeavesView, StageStands, StepAnswers, stage_number};
 ghost use Rattle.staging.specs.Whose.{AreTablesOf, KeepsKnown};
@@ -37,7 +37,7 @@ pub fn step<K: Naming>(
     // the change goes by stages and fits the server, and how far the words are with it
     requires fits { Fits server.now change.now }
     requires staged { IsStaged change.now }
-    requires numbered { AreNumbered K.names (made server.now change.now).state }
+    requires numbered { AreNumbered K.names (change_made server.now change.now).state }
     requires stage { StageStands K.names server.now change.now tables.old stage }
     // there is a number for one generation more
     requires room { length (written_by tables.old.writer).published < 2 ^ 40 }

@@ -2,7 +2,7 @@
 
 ghost use Rattle.std.specs.Prelude.{◌≡◌, ◌<◌, ◌^◌, ℕ, length, IfErr, IfOk};
 ghost use Rattle.progress_words.specs.Tokens.{written_by};
-ghost use Rattle.server_core.specs.Decided.{Fits, made};
+ghost use Rattle.server_core.specs.Decided.{Fits, change_made};
 ghost use Rattle.server_core.specs.Generations.{AreNumbered};
 ghost use Rattle.server_core.specs.ServerState.{entry_of};
 ghost use Rattle.change_laws.specs.Breakpoints.{TracesInCode};
@@ -97,7 +97,7 @@ fn advance_patch<K: Naming>(
     // the patch of the change is under way, with nothing published
     requires fits { Fits server.now change.now }
     requires code { TracesInCode server.now change.now }
-    requires numbered { AreNumbered K.names (made server.now change.now).state }
+    requires numbered { AreNumbered K.names (change_made server.now change.now).state }
     requires patched { IsPatched K.names server.now change.now tables.old }
     // there is a number for one generation more
     requires room { length (written_by tables.old.writer).published < 2 ^ 40 }
@@ -141,7 +141,7 @@ fn go_on<K: Naming>(
     // the patch of the change is under way, with nothing published
     requires fits { Fits server.now change.now }
     requires code { TracesInCode server.now change.now }
-    requires numbered { AreNumbered K.names (made server.now change.now).state }
+    requires numbered { AreNumbered K.names (change_made server.now change.now).state }
     requires patched { IsPatched K.names server.now change.now tables.old }
     // there is a number for one generation more
     requires room { length (written_by tables.old.writer).published < 2 ^ 40 }
@@ -180,7 +180,7 @@ fn begin_trace<K: Naming>(
     requires fits { Fits server.now change.now }
     requires trace { IsTraceChange change.now }
     requires code { TracesInCode server.now change.now }
-    requires numbered { AreNumbered K.names (made server.now change.now).state }
+    requires numbered { AreNumbered K.names (change_made server.now change.now).state }
     requires rest { AreAtRest K.names server.now tables.old }
     // there is a number for one generation more
     requires room { length (written_by tables.old.writer).published < 2 ^ 40 }
@@ -212,7 +212,7 @@ pub fn step_trace<K: Naming>(
     requires fits { Fits server.now change.now }
     requires trace { IsTraceChange change.now }
     requires code { TracesInCode server.now change.now }
-    requires numbered { AreNumbered K.names (made server.now change.now).state }
+    requires numbered { AreNumbered K.names (change_made server.now change.now).state }
     requires stage { StageStands K.names server.now change.now tables.old stage }
     // there is a number for one generation more
     requires room { length (written_by tables.old.writer).published < 2 ^ 40 }

@@ -15,11 +15,11 @@ pub struct Upcoming<'a> {
 }
 
 impl<'a> Next for Upcoming<'a> {
-    ghost use Rattle.server_core.specs.Decided.{made};
+    ghost use Rattle.server_core.specs.Decided.{change_made};
     ghost use Rattle.server_core.specs.Generations.{generation_of};
     ghost use Rattle.staging.specs.Upcoming.{areas_in};
 
-    ghost next = { λ u. generation_of u.exports.now (made u.server.now u.change.now).state };
+    ghost next = { λ u. generation_of u.exports.now (change_made u.server.now u.change.now).state };
 
     ghost blocks = { λ u. areas_in u.pools.now };
 }

@@ -4,7 +4,7 @@ ghost use Rattle.script_core.specs.Sound.{IsScript};
 ghost use Rattle.run_log.specs.declared.logs.Entry.{Entry};
 ghost use Rattle.run_log.specs.declared.logs.Who.TheVariants.{Loader};
 ghost use Rattle.run_log.specs.Legal.{commands_in, commands_of};
-ghost use Rattle.legality.specs.Places.{AreLeft, place_of};
+ghost use Rattle.legality.specs.Places.{AreLeft, loader_place};
 ghost use Rattle.script_core.specs.Processes.{commands_at};
 
 use crate::shape::commands::{ends_one, is_end_of};
@@ -18,9 +18,9 @@ fn next_command<'a>(
     places: &[usize],
 ) -> Option<&'a ScriptCmd>
     requires { length loaders.now ≤ length places.now }
-    ensures value { option_copied result ≡ slice_get (commands_at loaders.now loader) (place_of places.now loader) }
+    ensures value { option_copied result ≡ slice_get (commands_at loaders.now loader) (loader_place places.now loader) }
     ensures there { OnSome result (loader < length places.now) }
-    ensures room { OnSome result (place_of places.now loader + 1 < 2 ^ 64) }
+    ensures room { OnSome result (loader_place places.now loader + 1 < 2 ^ 64) }
 {
     let commands = loaders.get(loader)?.as_slice();
     commands.get(places[loader])

@@ -1,7 +1,7 @@
 -- A key that is staged is published behind the retirement of its former area.
 use Rattle.std.proofs.Common.{sym, ap, subst, ◌∙◌, length, arith}
 use Rattle.progress_words.specs.Tokens.{written_by}
-use Rattle.server_core.specs.Decided.{made}
+use Rattle.server_core.specs.Decided.{change_made}
 use Rattle.server_core.specs.ServerState.{key_area}
 use Rattle.staging.specs.Replaced.{FormerRetired, HaveReplaced}
 use Rattle.staging.specs.Stages.{HavePlaced}
@@ -36,7 +36,7 @@ publish_key-generation-requires-clause-room g c =
 
 pub returns-in-Ok-clause-ok : goal.returns-in-Ok-clause-ok
 returns-in-Ok-clause-ok g c =
-    published_from g.K.Naming.names (made c.args.server.now c.args.change.now).state c.args.tables.now c.retire_former.new.tables c.publish_key-generation.new.tables c.publish_key-generation.result
+    published_from g.K.Naming.names (change_made c.args.server.now c.args.change.now).state c.args.tables.now c.retire_former.new.tables c.publish_key-generation.new.tables c.publish_key-generation.result
     (published_retired (key_area c.args.server.now c.in-Ok.key.0) _ _ _ _ c.retire_former.ensures.retired ∙ c.stage_key.ensures.published) c.publish_key-generation.ensures.published
 
 pub returns-in-Err-clause-ok : goal.returns-in-Err-clause-ok

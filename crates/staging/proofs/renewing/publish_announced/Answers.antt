@@ -2,7 +2,7 @@
 use Rattle.std.proofs.Common.{refl, ap}
 use Rattle.shared_words.specs.declared.view.WriterView.{WriterView}
 use Rattle.progress_words.specs.Tokens.{written_by}
-use Rattle.change_laws.specs.Changes.{state_after}
+use Rattle.change_laws.specs.Changes.{changed_state}
 use Rattle.staging.specs.Renewed.{renewed}
 use Rattle.staging.specs.Upcoming.{areas_in}
 use Rattle.staging.proofs.Announced.{announced_renewed, but_looks, clear_of, keeps_drop}
@@ -13,7 +13,7 @@ use Rattle.server_core.specs.Generations.{generation_of}
 
 pub publish_next-requires-clause-next : goal.publish_next-requires-clause-next
 publish_next-requires-clause-next g c =
-    may_renew g.K.Naming.names c.args.server.now (state_after c.args.server.now c.args.change.now) c.args.shared.now.table.shared.table_id c.args.shared.now.table.shared.key c.args.tables.now c.requires.tables
+    may_renew g.K.Naming.names c.args.server.now (changed_state c.args.server.now c.args.change.now) c.args.shared.now.table.shared.table_id c.args.shared.now.table.shared.key c.args.tables.now c.requires.tables
     (announced_renewed g.K.Naming.names c.args.server.now c.args.shared.now.table.shared.table_id c.args.shared.now.table.shared.key c.args.tables.now c.generation-generation.ensures.sound c.requires.tables c.args.change.now c.requires.fits c.requires.renewal c.requires.announced) c.requires.announced.staged.patch
     c.exports_that_stay_are_staged.ensures c.args.tables.now.exports c.requires.names
 
@@ -22,7 +22,7 @@ publish_next-requires-clause-clear g c = clear_of c.args.change.now c.args.dropp
 
 pub returns-clause-tables : goal.returns-clause-tables
 returns-clause-tables g c =
-    (are_renewed g.K.Naming.names c.args.server.now (state_after c.args.server.now c.args.change.now) c.args.shared.now.table.shared.table_id c.args.shared.now.table.shared.key c.args.tables.now c.requires.tables
+    (are_renewed g.K.Naming.names c.args.server.now (changed_state c.args.server.now c.args.change.now) c.args.shared.now.table.shared.table_id c.args.shared.now.table.shared.key c.args.tables.now c.requires.tables
     (announced_renewed g.K.Naming.names c.args.server.now c.args.shared.now.table.shared.table_id c.args.shared.now.table.shared.key c.args.tables.now c.generation-generation.ensures.sound c.requires.tables c.args.change.now c.requires.fits c.requires.renewal c.requires.announced) c.requires.announced.staged.patch
     c.args.tables.now.exports (record c.args.tables.now { writer = c.publish_next.new.writer }) c.publish_next.result
     (record {
@@ -42,7 +42,7 @@ returns-clause-tables g c =
 
 pub returns-clause-published : goal.returns-clause-published
 returns-clause-published g c =
-    (are_renewed g.K.Naming.names c.args.server.now (state_after c.args.server.now c.args.change.now) c.args.shared.now.table.shared.table_id c.args.shared.now.table.shared.key c.args.tables.now c.requires.tables
+    (are_renewed g.K.Naming.names c.args.server.now (changed_state c.args.server.now c.args.change.now) c.args.shared.now.table.shared.table_id c.args.shared.now.table.shared.key c.args.tables.now c.requires.tables
     (announced_renewed g.K.Naming.names c.args.server.now c.args.shared.now.table.shared.table_id c.args.shared.now.table.shared.key c.args.tables.now c.generation-generation.ensures.sound c.requires.tables c.args.change.now c.requires.fits c.requires.renewal c.requires.announced) c.requires.announced.staged.patch
     c.args.tables.now.exports (record c.args.tables.now { writer = c.publish_next.new.writer }) c.publish_next.result
     (record {
@@ -70,5 +70,5 @@ returns-clause-waits g c =
 
 pub returns-clause-drop : goal.returns-clause-drop
 returns-clause-drop g c =
-    keeps_drop c.args.change.now c.args.dropped (written_by c.args.tables.now.writer) (written_by c.publish_next.new.writer) (renewed (written_by c.args.tables.now.writer) (generation_of c.args.tables.now.exports (state_after c.args.server.now c.args.change.now)) (areas_in c.args.tables.now.pools))
+    keeps_drop c.args.change.now c.args.dropped (written_by c.args.tables.now.writer) (written_by c.publish_next.new.writer) (renewed (written_by c.args.tables.now.writer) (generation_of c.args.tables.now.exports (changed_state c.args.server.now c.args.change.now)) (areas_in c.args.tables.now.pools))
     c.requires.dropped c.publish_next.ensures.published c.publish_next.ensures.agree

@@ -2,7 +2,7 @@
 use Rattle.std.proofs.Common.{ap, sym, subst, ◌∙◌, ◌<◌, ◌^◌, length}
 use Rattle.shared_words.specs.declared.view.WriterView.{WriterView}
 use Rattle.progress_words.specs.Tokens.{written_by}
-use Rattle.server_core.specs.Decided.{made}
+use Rattle.server_core.specs.Decided.{change_made}
 use Rattle.staging.proofs.Announced.{clear_still, keeps_from}
 use Rattle.staging.proofs.StagedEnds.{published_from}
 use Rattle.staging.proofs.Known.{waits_same}
@@ -17,7 +17,7 @@ publish_announced-requires-clause-room g c = subst (λ (w : WriterView). length 
 
 pub returns-clause-published : goal.returns-clause-published
 returns-clause-published g c =
-    published_from g.K.Naming.names (made c.args.server.now c.args.change.now).state c.args.tables.now c.announce-dropped.new.tables c.publish_announced.new.tables c.publish_announced.result
+    published_from g.K.Naming.names (change_made c.args.server.now c.args.change.now).state c.args.tables.now c.announce-dropped.new.tables c.publish_announced.new.tables c.publish_announced.result
     (ap (λ (w : WriterView). w.published) c.announce-dropped.ensures.same) c.publish_announced.ensures.published
 
 pub returns-clause-notes : goal.returns-clause-notes

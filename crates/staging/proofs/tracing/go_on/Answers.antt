@@ -1,7 +1,7 @@
 -- Each step has one phase less in front of it.
 use Rattle.std.proofs.Common.{length, refl, ap, subst, ◌∙◌, arith}
 use Rattle.progress_words.specs.Tokens.{written_by}
-use Rattle.server_core.specs.Decided.{made}
+use Rattle.server_core.specs.Decided.{change_made}
 use Rattle.breakpoints.specs.declared.patch.PatchStep.{PatchStep}
 use Rattle.staging.specs.declared.stage.Stage.TheVariants.{Patching}
 use Rattle.staging.specs.Traced.{AdvanceAnswers}
@@ -34,7 +34,7 @@ loop-round-preserved g c =
 
 pub returns-in-Published-clause-answers : goal.returns-in-Published-clause-answers
 returns-in-Published-clause-answers g c =
-    switched_from g.K.Naming.names (made c.args.server.now c.args.change.now).state c.args.tables.now c.loop-round.tables c.advance_patch.new.tables _ c.loop-round.invariant.published
+    switched_from g.K.Naming.names (change_made c.args.server.now c.args.change.now).state c.args.tables.now c.loop-round.tables c.advance_patch.new.tables _ c.loop-round.invariant.published
     (subst (λ (step : PatchStep). AdvanceAnswers g.K.Naming.names c.args.server.now c.args.change.now c.loop-round.tables c.advance_patch.new.tables step) c.in-Published.is c.in-Ok.ensures.answers)
 
 pub returns-in-Published-clause-exports : goal.returns-in-Published-clause-exports

@@ -1,5 +1,5 @@
 use Rattle.std.proofs.Common.{◌<◌, ◌≤◌, length, ap, ◌∙◌, get_or, arith}
-use Rattle.legality.specs.Places.{place_of}
+use Rattle.legality.specs.Places.{loader_place}
 use Rattle.legality.proofs.Equivalences.{never, always}
 use Rattle.legality.proofs.CommandPlaces.{all_taken, some_left, one_taken}
 use Rattle.legality.proofs.shape.order.are_all_taken.Goals as goal
@@ -8,14 +8,14 @@ use Rattle.legality.proofs.shape.order.are_all_taken.Goals as goal
 pub returns-then-places-loader : goal.returns-then-places-loader
 returns-then-places-loader c =
     let is = c.commands-item.is ∙ ap (λ xs. get_or xs c.loop-loader.loader c.commands-item.result) c.as_slice-commands-items.ensures in
-    let short : place_of c.args.places.now c.loop-loader.loader < length c.commands-item.result = omega arith in
+    let short : loader_place c.args.places.now c.loop-loader.loader < length c.commands-item.result = omega arith in
     never (some_left _ _ _ c.commands-item.result is (omega (arith, ap length c.as_slice-commands-items.ensures)) short)
 
 -- a loader with none
 pub loop-loader-preserved : goal.loop-loader-preserved
 loop-loader-preserved c =
     let is = c.commands-item.is ∙ ap (λ xs. get_or xs c.loop-loader.loader c.commands-item.result) c.as_slice-commands-items.ensures in
-    let long : length c.commands-item.result ≤ place_of c.args.places.now c.loop-loader.loader = omega arith in
+    let long : length c.commands-item.result ≤ loader_place c.args.places.now c.loop-loader.loader = omega arith in
     one_taken _ _ _ c.commands-item.result is (omega (arith, ap length c.as_slice-commands-items.ensures)) long c.loop-loader.invariant
 
 -- no loader has one

@@ -3,14 +3,20 @@ use Rattle.std.proofs.Common.{◌≡◌, ◌+◌, ◌++◌, ap, ◌∙◌, sym, 
 use Rattle.std.specs.Option.{option_to_list}
 use Rattle.server_core.specs.declared.command.Reply.TheVariants as replies
 use Rattle.server_core.specs.CommandTable.{published, with_erased}
+use Rattle.server_core.specs.Decided.{RetiredFits}
 use Rattle.server_core.specs.ServerState.{IsSound, key_area}
 use Rattle.server_core.specs.Tables.{state_of}
 use Rattle.server_core.proofs.KeyChanges.{sound_erased}
+use Rattle.server_core.proofs.Retiring.{given_can_retire}
 use Rattle.server_core.proofs.Soundness.{published_as, sound_published}
 use Rattle.server_core.proofs.server.Server.forget.Goals as goal
 
-retired : (c : goal.After-published) → c.push_some.new.self.serials ≡ c.self.inside.retired.serials ++ option_to_list (key_area (state_of c.self.inside) c.args.key.0)
-retired c = c.push_some.ensures ∙ (λ i. c.make_room.ensures.same i ++ option_to_list (c.erase-former.ensures.former i))
+pub push_some-requires : goal.push_some-requires
+push_some-requires c =
+    given_can_retire (state_of c.self.inside) c.args.key.0 c.erase-former.result c.args.retired c.self.invariant (subst (λ s. RetiredFits s c.args.retired) (sym c.self.view_is) c.requires.retired) c.erase-former.ensures.former
+
+retired : (c : goal.After-published) → c.push_some.new.self ≡ c.self.inside.retired ++ option_to_list (key_area (state_of c.self.inside) c.args.key.0)
+retired c = c.push_some.ensures ∙ (λ i. c.self.inside.retired ++ option_to_list (c.erase-former.ensures.former i))
 
 state_after : (c : goal.After-published) → (published (with_erased c.args.self.now c.args.key.0) replies.True).state ≡ state_of (record c.self.inside { generation = c.args.generation; keys = c.erase-former.new.self; retired = c.push_some.new.self })
 state_after c =

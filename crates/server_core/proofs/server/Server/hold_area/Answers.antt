@@ -5,18 +5,25 @@ use Rattle.term_core.specs.Plain.{plain}
 use Rattle.server_core.specs.declared.areas.Area.TheVariants.{Stored}
 use Rattle.server_core.specs.declared.command.Reply.TheVariants as replies
 use Rattle.server_core.specs.CommandTable.{published, with_complex, with_key}
+use Rattle.server_core.specs.Decided.{RetiredFits}
 use Rattle.server_core.specs.Rooms.{area_among}
 use Rattle.server_core.specs.ServerState.{IsSound, key_area}
 use Rattle.server_core.specs.Tables.{state_of}
 use Rattle.server_core.proofs.AreaPlaces.{IsStored, stored_last}
 use Rattle.server_core.proofs.KeyChanges.{sound_complex}
+use Rattle.server_core.proofs.Retiring.{given_can_retire}
 use Rattle.server_core.proofs.Soundness.{published_as, sound_published}
 use Rattle.server_core.proofs.server.Server.hold_area.Goals as goal
 
-retired : (c : goal.After-published) → c.push_some.new.self.serials ≡ c.self.inside.retired.serials ++ option_to_list (key_area (state_of c.self.inside) c.args.key.0)
+pub push_some-requires : goal.push_some-requires
+push_some-requires c =
+    let former = c.put-former.ensures.former ∙ ap (λ ps. area_among ps c.args.key.0) c.make_room.ensures.same in
+    given_can_retire (state_of c.self.inside) c.args.key.0 c.put-former.result c.args.retired c.self.invariant (subst (λ s. RetiredFits s c.args.retired) (sym c.self.view_is) c.requires.retired) former
+
+retired : (c : goal.After-published) → c.push_some.new.self ≡ c.self.inside.retired ++ option_to_list (key_area (state_of c.self.inside) c.args.key.0)
 retired c =
     let former = c.put-former.ensures.former ∙ ap (λ ps. area_among ps c.args.key.0) c.make_room.ensures.same in
-    c.push_some.ensures ∙ (λ i. c.make_room-2.ensures.same i ++ option_to_list (former i))
+    c.push_some.ensures ∙ (λ i. c.self.inside.retired ++ option_to_list (former i))
 
 keys : (c : goal.After-published) → c.put-former.new.self.persistents ≡ with_key c.self.inside.keys.persistents (record { key = c.args.key.0; term = plain c.args.term; area = Some (length c.self.inside.areas + 1) })
 keys c = c.put-former.ensures.persistents ∙ (λ i. with_key (c.make_room.ensures.same i) (record { key = c.args.key.0; term = plain c.args.term; area = Some (c.next_serial-serial.ensures.value i) }))
