@@ -17,7 +17,7 @@ use Rattle.run_log.specs.declared.logs.Entry.{Entry}
 use Rattle.run_log.specs.Journal.{newest_state, published_count}
 use Rattle.run_log.specs.Legal.{published_to, state_before}
 use Rattle.run_law.specs.Answers.{AreAnswersKept, HasDrop, HasLingering, HasPurge, IsAnswerKept}
-use Rattle.write_permit.specs.Permit.{opening}
+use Rattle.write_permit.specs.Permit.{command_opening}
 use Rattle.word_permit.specs.Books.{TellsNone}
 use Rattle.word_permit.specs.Waiting.{GoesOverWords}
 use Rattle.word_permit.proofs.PushedLists.{PushedAt, at_end, before, pushed_at}
@@ -52,7 +52,7 @@ pub answered_quietly : (texts : List Module) (journal : List Entry) (e : Entry) 
 answered_quietly texts journal e kept had quiet = answered_joined texts journal e kept had (none_told (newest_state texts empty_state journal) (published_count journal) kept e.cmd quiet)
 
 -- one that is made over the words tells nothing
-pub goes_quiet : (s : ServerState) (command : ScriptCmd) → GoesOverWords command → TellsNone (opening s [] command)
+pub goes_quiet : (s : ServerState) (command : ScriptCmd) → GoesOverWords command → TellsNone (command_opening s [] command)
 goes_quiet s (Load refs) h = tt
 goes_quiet s (Delete name) h = tt
 goes_quiet s (Put key term) h = tt

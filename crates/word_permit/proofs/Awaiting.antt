@@ -14,7 +14,7 @@ use Rattle.marks.specs.declared.kept.LookKind.TheVariants.{Both}
 use Rattle.shared_words.specs.declared.opening.Opening.{Opening}
 use Rattle.shared_words.specs.declared.view.WriterView.{WriterView}
 use Rattle.shared_words.specs.Slots.{LookMayBegin}
-use Rattle.shared_words.specs.Views.{newest}
+use Rattle.shared_words.specs.Views.{newest_number}
 use Rattle.shared_words.proofs.ShownMembers.{still_at}
 use Rattle.progress_words.specs.declared.answers.NotYet.{NotYet}
 use Rattle.progress_words.specs.Needs.{HasLoadedCounter, HasTaken, IsBelow}
@@ -32,6 +32,7 @@ use Rattle.staging.specs.Standing.{StandFor}
 use Rattle.staging.specs.Whose.{KeepsKnown, KeepsWaits}
 use Rattle.write_permit.specs.Book.{shown}
 use Rattle.write_permit.specs.Permit.{PermitState}
+use Rattle.breakpoints.proofs.Others.{counted_loads}
 use Rattle.word_permit.specs.declared.book.AreaNeed.{AreaNeed}
 use Rattle.word_permit.specs.declared.book.Waiting.{Waiting}
 use Rattle.word_permit.specs.declared.book.WordBook.{WordBook}
@@ -39,28 +40,27 @@ use Rattle.word_permit.specs.Books.{IsWordBook}
 use Rattle.word_permit.specs.Needs.{IsAwaited}
 use Rattle.word_permit.specs.Pumped.{IsAwaitedStill}
 use Rattle.word_permit.specs.Waiting.{WordsStand}
-use Rattle.word_permit.proofs.Looked.{counter_loads}
 use Rattle.word_permit.proofs.Resting.{stands_by}
 
 -- ---- what is retired
 
 -- what waits for its release is retired in the newest generation
-newest_retired : (names : List Mfa) (s : ServerState) (pools : Areas) (w : WriterView) (serial : ℕ) → StandFor names s pools w → IsTrue (is_retired s serial) → IsTrue (generations.is_retired (newest_of w) serial)
+newest_retired : (names : List Mfa) (s : ServerState) (pools : Areas) (w : WriterView) (serial : ℕ) → StandFor names s pools w → IsTrue (is_retired s serial) → IsTrue (generations.is_retired_area (newest_of w) serial)
 newest_retired names s pools w serial stands waits =
     let shown = stands.newest_is in
     let was : IsTrue (is_retired shown.stood serial) = shown.since.fewer serial waits in
-    elim shown.shows as (λ _. IsTrue (generations.is_retired (newest_of w) serial)) [
+    elim shown.shows as (λ _. IsTrue (generations.is_retired_area (newest_of w) serial)) [
       | inl is ↦ subst (λ (g : Generation). IsTrue (generations.has_serial g.retired serial)) (sym is) was
       | inr first ↦ absurd (false≢true (subst (λ (t : ServerState). IsTrue (is_retired t serial)) first.1 was))
     ]
 
-stage_retired : (names : List Mfa) (s : ServerState) (change : Change) (t : Tables) (stage : Stage) (serial : ℕ) → StageStands names s change t stage → IsTrue (is_retired s serial) → IsTrue (generations.is_retired (newest_of (written_by t.writer)) serial)
+stage_retired : (names : List Mfa) (s : ServerState) (change : Change) (t : Tables) (stage : Stage) (serial : ℕ) → StageStands names s change t stage → IsTrue (is_retired s serial) → IsTrue (generations.is_retired_area (newest_of (written_by t.writer)) serial)
 stage_retired names s change t Untouched serial h = newest_retired names s t.pools (written_by t.writer) serial h.stands
 stage_retired names s change t (Placed areas) serial h = newest_retired names s h.0.rest (written_by t.writer) serial h.0.stands
 stage_retired names s change t (Exported areas) serial h = newest_retired names s h.placed.rest (written_by t.writer) serial h.placed.stands
 stage_retired names s change t Patching serial h = newest_retired names s t.pools (written_by t.writer) serial h.stands
 
-pub words_retired : (names : List Mfa) (p : PermitState) (t : Tables) (o : Option Waiting) (serial : ℕ) → WordsStand names p t o → IsTrue (is_retired p.server serial) → IsTrue (generations.is_retired (newest_of (written_by t.writer)) serial)
+pub words_retired : (names : List Mfa) (p : PermitState) (t : Tables) (o : Option Waiting) (serial : ℕ) → WordsStand names p t o → IsTrue (is_retired p.server serial) → IsTrue (generations.is_retired_area (newest_of (written_by t.writer)) serial)
 words_retired names p t None serial h = newest_retired names p.server t.pools (written_by t.writer) serial (stands_by names p.holder p.server t h)
 words_retired names p t (Some w) serial h = stage_retired names p.server w.decision.change t w.stage serial h.stands
 
@@ -72,7 +72,7 @@ waits_loaded old new loaded pair had = subst (λ (w : WriterView). Among w.pairs
 
 pub known_loaded : (old new : WriterView) → HasLoadedCounter old new → KeepsKnown old new
 known_loaded old new loaded =
-    let more = counter_loads old new loaded in
+    let more = counted_loads old new loaded in
     record { notes = ap (λ (w : WriterView). w.notes) loaded.view; looks = ap (λ (w : WriterView). w.looks) loaded.view; waits = waits_loaded old new loaded; longer = omega (arith, more) }
 
 pub counter_rises : (old new : WriterView) → HasLoadedCounter old new → old.counter ≤ new.counter
@@ -81,18 +81,18 @@ counter_rises old new loaded = subst (λ (w : WriterView). old.counter ≤ w.cou
 pub waits_same : (old new : WriterView) → new.pairs ≡ old.pairs → KeepsWaits old new
 waits_same old new is pair had = subst (λ pairs. Among pairs pair) (sym is) had
 
-newest_at : (published : List Published) → 0 < length published → slice_get published (newest published) ≡ Some (unwrap_or (slice_get published (newest published)) opening_published)
+newest_at : (published : List Published) → 0 < length published → slice_get published (newest_number published) ≡ Some (unwrap_or (slice_get published (newest_number published)) opening_published)
 newest_at published some =
-    let at = slice_get-get_or published (newest published) opening_published (omega (arith, some)) in
+    let at = slice_get-get_or published (newest_number published) opening_published (omega (arith, some)) in
     at ∙ ap Some (sym (ap (λ (o : Option Published). unwrap_or o opening_published) at))
 
 -- a value that is taken now is waited for, for each area that is retired now
-pub awaited_now : (old new : WriterView) (n : AreaNeed) → 0 < length old.published → HasLoadedCounter old new → HasTaken new (newest old.published) n.value → IsTrue (generations.is_retired (newest_of old) n.serial) → IsAwaited new n
+pub awaited_now : (old new : WriterView) (n : AreaNeed) → 0 < length old.published → HasLoadedCounter old new → HasTaken new (newest_number old.published) n.value → IsTrue (generations.is_retired_area (newest_of old) n.serial) → IsAwaited new n
 awaited_now old new n some loaded taken retired = record {
-  generation = newest old.published;
+  generation = newest_number old.published;
   taken = taken;
   published = newest_of old;
-  at = ap (λ (w : WriterView). slice_get w.published (newest old.published)) loaded.view ∙ newest_at old.published some;
+  at = ap (λ (w : WriterView). slice_get w.published (newest_number old.published)) loaded.view ∙ newest_at old.published some;
   retired = retired;
 }
 
@@ -139,7 +139,7 @@ look_may_begin w n h reached = record {
 
 -- a value is taken for an area of the server that is retired
 pub need_taken : (names : List Mfa) (table : TableId) (opening : Opening) (b : WordBook) (new : WriterView) (n : AreaNeed) → IsWordBook names table opening b → IsTrue (is_retired b.plain.server n.serial) → HasLoadedCounter (written_by b.tables.writer) new
-    → HasTaken new (newest (written_by b.tables.writer).published) n.value → IsAwaited new n
+    → HasTaken new (newest_number (written_by b.tables.writer).published) n.value → IsAwaited new n
 need_taken names table opening b new n known waits loaded taken =
     let many = known.has.published.many in
     awaited_now (written_by b.tables.writer) new n (omega (arith, many)) loaded taken (words_retired names (shown b.plain) b.tables b.waiting n.serial known.words waits)

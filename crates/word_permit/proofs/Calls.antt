@@ -16,7 +16,7 @@ use Rattle.server_core.specs.declared.command.Cmd.{Cmd}
 use Rattle.server_core.specs.declared.command.Cmd.TheVariants as cmds
 use Rattle.server_core.specs.declared.command.Reply.TheVariants as replies
 use Rattle.server_core.specs.CommandTable.{Outcome, answered, apply_of, unchanged}
-use Rattle.server_core.specs.Decided.{Fits, made}
+use Rattle.server_core.specs.Decided.{Fits, change_made}
 use Rattle.server_core.specs.ServerState.{empty_state, old_of}
 use Rattle.script_core.specs.declared.script.Script.{Script}
 use Rattle.script_core.specs.declared.script.ScriptCmd.{ScriptCmd}
@@ -35,13 +35,13 @@ use Rattle.write_permit.specs.declared.spawned.Spawned as plains
 use Rattle.write_permit.specs.declared.book.Book.{Book}
 use Rattle.write_permit.specs.declared.holder.Holder.TheVariants.{Free, Held}
 use Rattle.write_permit.specs.Book.{HoldsJust, IsBook, IsLog, IsPermit, shown}
-use Rattle.write_permit.specs.Permit.{PermitState, Step, at_once_of, counted_in, done_by, entered_by, half_of, holder_of, joined, needs_permission, next_of, opening, spawned_by}
+use Rattle.write_permit.specs.Permit.{PermitState, PermitStep, at_once_of, counted_in, done_by, entered_by, half_of, holder_of, joined, needs_permission, next_of, command_opening, spawned_by}
 use Rattle.write_permit.proofs.Kept.{holder_apart, next_kept}
 use Rattle.word_permit.specs.declared.book.AreaNeed.{AreaNeed}
 use Rattle.word_permit.specs.declared.book.Decision.{Decision}
 use Rattle.word_permit.specs.declared.book.Waiting.{Waiting}
 use Rattle.word_permit.specs.declared.book.WordBook.{WordBook}
-use Rattle.word_permit.specs.Books.{HasItsTables, IsKept, IsWordBook, JoinsUnpublished, TellsNone}
+use Rattle.word_permit.specs.Books.{HasItsTables, IsKept, IsWordBook, JoinsUnpublished, StageGoesOn, TellsNone}
 use Rattle.word_permit.specs.Looks.{IsLookTaken}
 use Rattle.word_permit.specs.Needs.{IsAwaited}
 use Rattle.word_permit.specs.Notes.{AreOfSpawned, IsSpawnedIn}
@@ -61,16 +61,20 @@ first_at names texts (suc k) p h = absurd (none-some p h)
 
 -- before the first command generation 0 is published
 pub published_first : (names : List Mfa) (texts : List Module) (journal : List Entry) (published : List Published) → journal ≡ [] → published ≡ opening_published ∷ [] → ArePublished names texts journal published
-published_first names texts journal published begun opening =
-    subst (λ js. ArePublished names texts js published) (sym begun) (subst (ArePublished names texts []) (sym opening) (record { many = refl; each = first_at names texts }))
+published_first names texts journal published begun command_opening =
+    subst (λ js. ArePublished names texts js published) (sym begun) (subst (ArePublished names texts []) (sym command_opening) (record { many = refl; each = first_at names texts }))
+
+-- nothing waited before
+pub none_before : (old new : Option Waiting) → old ≡ None → StageGoesOn old new
+none_before old new none = subst (λ (x : Option Waiting). StageGoesOn x new) (sym none) tt
 
 -- no look is waited for
 pub no_look : (b : WordBook) → b.look ≡ None → IfSome b.look (IsLookTaken (written_by b.tables.writer))
 no_look b none = subst (λ (o : Option ℕ). IfSome o (IsLookTaken (written_by b.tables.writer))) (sym none) tt
 
-pub begun_word_book : (names : List Mfa) (table : TableId) (opening : Opening) (b : WordBook) → IsBook b.plain → All (IsNumbered names) b.plain.script.modules → AreTablesOf table opening b.tables → b.tables.exports ≡ names → b.plain.journal ≡ []
-    → b.plain.server ≡ empty_state → b.plain.holder ≡ Free → (written_by b.tables.writer).published ≡ opening_published ∷ [] → (written_by b.tables.writer).notes ≡ [] → AreAtRest names empty_state b.tables → b.waiting ≡ None → b.need ≡ None → b.look ≡ None → IsWordBook names table opening b
-begun_word_book names table opening b book texts tables exports journal server free published notes rest none needs look = record {
+pub begun_word_book : (names : List Mfa) (table : TableId) (command_opening : Opening) (b : WordBook) → IsBook b.plain → All (IsNumbered names) b.plain.script.modules → AreTablesOf table command_opening b.tables → b.tables.exports ≡ names → b.plain.journal ≡ []
+    → b.plain.server ≡ empty_state → b.plain.holder ≡ Free → (written_by b.tables.writer).published ≡ opening_published ∷ [] → (written_by b.tables.writer).notes ≡ [] → AreAtRest names empty_state b.tables → b.waiting ≡ None → b.need ≡ None → b.look ≡ None → IsWordBook names table command_opening b
+begun_word_book names table command_opening b book texts tables exports journal server free published notes rest none needs look = record {
   has = record {
     book = book;
     texts = texts;
@@ -113,7 +117,7 @@ pub seized_kept : (b : WordBook) (who : ℕ) → b.plain.holder ≡ Free → IsS
 seized_kept b who free needs = record {
   tables = refl;
   script = refl;
-  book = λ names table opening known. record {
+  book = λ names table command_opening known. record {
     has = record {
       book = book_seized b.plain who free needs known.has.book;
       texts = known.has.texts;
@@ -155,16 +159,16 @@ module _ (p : PermitState) (known : IsPermit p) (who : ℕ) (q : PermitState) (a
       entry = record { who = Loader who; cmd = cmd; reply = o.answer.reply; published = o.answer.published }
 
   -- the state that is told is this one
-  left_as : (command : ScriptCmd) (x y : Step) → LeftAtOnce p who command x.state → Some x ≡ Some y → LeftAtOnce p who command y.state
-  left_as command x y left h = subst (λ (s : Step). LeftAtOnce p who command s.state) (same_Some x y h) left
+  left_as : (command : ScriptCmd) (x y : PermitStep) → LeftAtOnce p who command x.state → Some x ≡ Some y → LeftAtOnce p who command y.state
+  left_as command x y left h = subst (λ (s : PermitStep). LeftAtOnce p who command s.state) (same_Some x y h) left
 
-  left_by : (command : ScriptCmd) → next_of p who ≡ Some command → needs_permission command ≡ false → done_by p who command (opening p.server [] command) ≡ Some (record { state = q; answer = answer }) → LeftAtOnce p who command q
+  left_by : (command : ScriptCmd) → next_of p who ≡ Some command → needs_permission command ≡ false → done_by p who command (command_opening p.server [] command) ≡ Some (record { state = q; answer = answer }) → LeftAtOnce p who command q
   left_by (CheckOld name) next free h = left_as (CheckOld name) _ _ (left_of (CheckOld name) next (cmds.CheckOld name) (unchanged p.server (answered (is_some (old_of p.server name.0)))) refl refl refl tt) h
   left_by (Spawn target args) next free h = left_as (Spawn target args) _ _ (left_of (Spawn target args) next (cmds.Spawn target args) (unchanged p.server replies.Ok) refl refl refl tt) h
   left_by command next free h = absurd (false≢true (sym free))
 
   pub left_at_once : (command : ScriptCmd) → next_of p who ≡ Some command → needs_permission command ≡ false → at_once_of p who ≡ Some (record { state = q; answer = answer }) → LeftAtOnce p who command q
-  left_at_once command next free h = left_by command next free (ap (option_and_then {U = Step} (λ x. done_by p who x (opening p.server [] x))) (sym next) ∙ h)
+  left_at_once command next free h = left_by command next free (ap (option_and_then {U = PermitStep} (λ x. done_by p who x (command_opening p.server [] x))) (sym next) ∙ h)
 
 -- a decided command stays so where the server and the loader's next command do
 pub decided_moved : (p q : PermitState) (who : ℕ) (d : Decision) → q.server ≡ p.server → q.script ≡ p.script → next_of q who ≡ next_of p who → IsDecided p who d → IsDecided q who d
@@ -172,10 +176,10 @@ decided_moved p q who d server script next k = record {
   command = k.command;
   next = next ∙ k.next;
   goes = k.goes;
-  cmd_is = k.cmd_is ∙ ap (λ s. opening s [] k.command) (sym server);
+  cmd_is = k.cmd_is ∙ ap (λ s. command_opening s [] k.command) (sym server);
   fits = subst (λ s. Fits s d.change) (sym server) k.fits;
-  given = subst (λ (x : Script). apply_of x.modules q.server d.cmd ≡ Some (made q.server d.change)) (sym script) (subst (λ s. apply_of p.script.modules s d.cmd ≡ Some (made s d.change)) (sym server) k.given);
-  answer = subst (λ s. (made s d.change).answer ≡ d.applied) (sym server) k.answer;
+  given = subst (λ (x : Script). apply_of x.modules q.server d.cmd ≡ Some (change_made q.server d.change)) (sym script) (subst (λ s. apply_of p.script.modules s d.cmd ≡ Some (change_made s d.change)) (sym server) k.given);
+  answer = subst (λ s. (change_made s d.change).answer ≡ d.applied) (sym server) k.answer;
 }
 
 words_at_once : (names : List Mfa) (p q : PermitState) (who : ℕ) (command : ScriptCmd) (t : Tables) (o : Option Waiting) → HoldsJust p p.holder → next_of p who ≡ Some command → needs_permission command ≡ false → LeftAtOnce p who command q
@@ -194,11 +198,11 @@ pub counts_none : (e : Entry) → e.published ≡ None → publishes e ≡ 0
 counts_none e none = ap (λ yes. if yes then 1 else 0) (ap (λ (o : Option ℕ). is_some o) none)
 
 -- a book to which an entry joined that publishes nothing, while the words stay
-pub has_joined : (names : List Mfa) (table : TableId) (opening : Opening) (b c : WordBook) → HasItsTables names table opening b → IsBook c.plain → c.plain.script ≡ b.plain.script → JoinsUnpublished b.plain.journal c.plain.journal → c.tables ≡ b.tables → c.need ≡ b.need → HasItsTables names table opening c
-has_joined names table opening b c had book script journal tables need = record {
+pub has_joined : (names : List Mfa) (table : TableId) (command_opening : Opening) (b c : WordBook) → HasItsTables names table command_opening b → IsBook c.plain → c.plain.script ≡ b.plain.script → JoinsUnpublished b.plain.journal c.plain.journal → c.tables ≡ b.tables → c.need ≡ b.need → HasItsTables names table command_opening c
+has_joined names table command_opening b c had book script journal tables need = record {
   book = book;
   texts = subst (λ (x : Script). All (IsNumbered names) x.modules) (sym script) had.texts;
-  tables = subst (AreTablesOf table opening) (sym tables) had.tables;
+  tables = subst (AreTablesOf table command_opening) (sym tables) had.tables;
   exports = ap (λ (x : Tables). x.exports) tables ∙ had.exports;
   notes = subst (λ (x : Tables). AreOfSpawned c.plain.script c.plain.journal (written_by x.writer).notes) (sym tables)
       (subst (λ (x : Script). AreOfSpawned x c.plain.journal (written_by b.tables.writer).notes) (sym script)
@@ -220,8 +224,8 @@ pub kept_at_once : (b : WordBook) (plain : Book) (who : ℕ) (command : ScriptCm
 kept_at_once b plain who command next free known book left = record {
   tables = refl;
   script = left.script;
-  book = λ names table opening k. record {
-    has = has_joined names table opening b (record b { plain = plain }) k.has book left.script left.journal refl refl;
+  book = λ names table command_opening k. record {
+    has = has_joined names table command_opening b (record b { plain = plain }) k.has book left.script left.journal refl refl;
     words = words_at_once names (shown b.plain) (shown plain) who command b.tables b.waiting known.permit.holds next free left k.words;
     looked = k.looked;
   };
@@ -229,14 +233,14 @@ kept_at_once b plain who command next free known book left = record {
 
 -- a book that is as it was is kept
 pub kept_as_is : (b : WordBook) → IsKept b b
-kept_as_is b = record { tables = refl; script = refl; book = λ names table opening known. known }
+kept_as_is b = record { tables = refl; script = refl; book = λ names table command_opening known. known }
 
 -- a book that shows the same is kept
 pub kept_shown : (b : WordBook) (plain : Book) → IsBook plain → shown plain ≡ shown b.plain → IsKept b (record b { plain = plain })
 kept_shown b plain book same = record {
   tables = refl;
   script = ap (λ (x : PermitState). x.script) same;
-  book = λ names table opening known. record {
+  book = λ names table command_opening known. record {
     has = record {
       book = book;
       texts = subst (λ (x : PermitState). All (IsNumbered names) x.script.modules) (sym same) known.has.texts;
@@ -253,15 +257,15 @@ kept_shown b plain book same = record {
 }
 
 -- what a command leaves that is made at once, before the note of its process is split
-pub record MadeAtOnce (names : List Mfa) (table : TableId) (opening : Opening) (b : WordBook) (plain : Book) (made : Option plains.Spawned) : Type 0 where
+pub record MadeAtOnce (names : List Mfa) (table : TableId) (command_opening : Opening) (b : WordBook) (plain : Book) (change_made : Option plains.Spawned) : Type 0 where
   pub script : plain.script ≡ b.plain.script
-  pub book : IsWordBook names table opening (record b { plain = plain })
-  pub may : IfSome made (λ (s : plains.Spawned). MaySplitNote (written_by b.tables.writer) s.process)
-  pub spawned : IfSome made (λ (s : plains.Spawned). IsSpawnedIn plain.script plain.journal s.process)
+  pub book : IsWordBook names table command_opening (record b { plain = plain })
+  pub may : IfSome change_made (λ (s : plains.Spawned). MaySplitNote (written_by b.tables.writer) s.process)
+  pub spawned : IfSome change_made (λ (s : plains.Spawned). IsSpawnedIn plain.script plain.journal s.process)
 
-pub made_at_once : (names : List Mfa) (table : TableId) (opening : Opening) (b : WordBook) (plain : Book) (who : ℕ) (a : AtOnce) → IsWordBook names table opening b → IsSomeAnd (next_of (shown b.plain) who) (λ command. needs_permission command ≡ false) → IsBook plain
-    → at_once_of (shown b.plain) who ≡ Some (record { state = shown plain; answer = a.applied }) → a.spawned ≡ spawned_by (shown b.plain) who (next_of (shown b.plain) who) → MadeAtOnce names table opening b plain a.spawned
-made_at_once names table opening b plain who a known next book made_is told =
+pub made_at_once : (names : List Mfa) (table : TableId) (command_opening : Opening) (b : WordBook) (plain : Book) (who : ℕ) (a : AtOnce) → IsWordBook names table command_opening b → IsSomeAnd (next_of (shown b.plain) who) (λ command. needs_permission command ≡ false) → IsBook plain
+    → at_once_of (shown b.plain) who ≡ Some (record { state = shown plain; answer = a.applied }) → a.spawned ≡ spawned_by (shown b.plain) who (next_of (shown b.plain) who) → MadeAtOnce names table command_opening b plain a.spawned
+made_at_once names table command_opening b plain who a known next book made_is told =
     let d = some_and (next_of (shown b.plain) who) (λ command. needs_permission command ≡ false) next in
     let permit : IsPermit (shown b.plain) = known.has.book.permit in
     let left = left_at_once (shown b.plain) permit who (shown plain) a.applied d.0 d.1.0 d.1.1 made_is in
@@ -269,7 +273,7 @@ made_at_once names table opening b plain who a known next book made_is told =
     let is : spawned_by (shown b.plain) who (Some d.0) ≡ a.spawned = ap (spawned_by (shown b.plain) who) (sym d.1.0) ∙ sym told in
     record {
       script = left.script;
-      book = kept.book names table opening known;
+      book = kept.book names table command_opening known;
       may = subst (λ o. IfSome o (λ (s : plains.Spawned). MaySplitNote (written_by b.tables.writer) s.process)) is
           (if_spawned (shown b.plain) who d.0 (MaySplitNote (written_by b.tables.writer)) (λ spawns. may_split (shown b.plain) permit who d.0 d.1.0 spawns (written_by b.tables.writer) known.has.notes));
       spawned = subst (λ o. IfSome o (λ (s : plains.Spawned). IsSpawnedIn plain.script plain.journal s.process)) is

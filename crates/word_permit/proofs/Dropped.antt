@@ -10,12 +10,12 @@ use Rattle.area_core.specs.declared.table.Published.{Published}
 use Rattle.area_core.specs.Blocks.{Among}
 use Rattle.marks.specs.declared.kept.LookKind.TheVariants.{Frame}
 use Rattle.marks.specs.declared.kept.WriterKept.{WriterKept}
-use Rattle.marks.specs.Steps.{with_dropped}
+use Rattle.marks.specs.Steps.{with_drop_kept}
 use Rattle.shared_words.specs.declared.opening.Opening.{Opening}
 use Rattle.shared_words.specs.declared.view.WriterView.{WriterView}
 use Rattle.shared_words.specs.Drops.{AgreesWithLooks, drop_of}
 use Rattle.shared_words.specs.Slots.{IsClear}
-use Rattle.shared_words.specs.Views.{newest}
+use Rattle.shared_words.specs.Views.{newest_number}
 use Rattle.progress_words.specs.Tokens.{written_by}
 use Rattle.change_laws.specs.Names.{IsNumbered}
 use Rattle.server_core.specs.declared.change.Change.{Change}
@@ -24,7 +24,7 @@ use Rattle.server_core.specs.declared.command.Applied.{Applied}
 use Rattle.server_core.specs.declared.command.Cmd.{Cmd}
 use Rattle.server_core.specs.declared.command.Cmd.TheVariants as cmds
 use Rattle.server_core.specs.CommandTable.{Outcome, apply_of}
-use Rattle.server_core.specs.Decided.{Fits, made}
+use Rattle.server_core.specs.Decided.{Fits, change_made}
 use Rattle.server_core.specs.Generations.{generation_of}
 use Rattle.server_core.specs.ServerState.{IsSound, ServerState, empty_state, old_of}
 use Rattle.script_core.specs.declared.script.Script.{Script}
@@ -45,9 +45,9 @@ use Rattle.write_permit.specs.declared.book.Book.{Book}
 use Rattle.write_permit.specs.declared.commands.OldCode.{OldCode}
 use Rattle.write_permit.specs.declared.holder.Holder.TheVariants.{Free, Held, Purging}
 use Rattle.write_permit.specs.declared.loader_run.LoaderRun.{LoaderRun}
-use Rattle.write_permit.specs.Agreement.{Agrees, CanFollowNewest, new_modules, newest_followed, newest_of}
+use Rattle.write_permit.specs.Agreement.{AgreesWithServer, CanFollowNewest, new_modules, newest_followed, newest_of}
 use Rattle.write_permit.specs.Book.{IsBook, shown}
-use Rattle.write_permit.specs.Permit.{Advanced, PermitState, Step, counted_in, done_of, ended_with, entered_by, freed, holder_of, joined, loader_after, made_of, next_of}
+use Rattle.write_permit.specs.Permit.{Advanced, PermitState, PermitStep, counted_in, done_of, command_ended, entered_by, freed, holder_of, joined, loader_after, made_of, next_of}
 use Rattle.write_permit.proofs.Agreement.{NewestFollows, newest_follows}
 use Rattle.write_permit.proofs.EndBooks.{DoomMade, EndMade, doom_left, end_made}
 use Rattle.write_permit.proofs.Entered.{counted_grows}
@@ -58,7 +58,7 @@ use Rattle.word_permit.specs.declared.book.WordBook.{WordBook}
 use Rattle.word_permit.specs.Books.{HasItsTables, IsWordBook}
 use Rattle.word_permit.specs.Needs.{IsAwaited}
 use Rattle.word_permit.specs.Notes.{AreOfSpawned}
-use Rattle.word_permit.specs.Purged.{DoomsCode, DropsCode, EndsNext, HasGrown, IsDoomMade, IsMadeBy, IsToldBy, IsToldByDrop}
+use Rattle.word_permit.specs.Purged.{DoomsCode, DropsCode, EndsNext, HasGrown, IsCodeDropped, IsDoomMade, IsMadeBy, IsToldBy, IsToldByDrop}
 use Rattle.word_permit.specs.Settled.{IsFinished}
 use Rattle.word_permit.specs.Waiting.{RestsBy, WordsStand}
 use Rattle.word_permit.proofs.Answered.{KeepsAnswers, answered_joined, answered_more}
@@ -78,7 +78,7 @@ pub drops_clear : (change : Change) (serial : ℕ) (w : WriterView) → DropsCod
 drops_clear (DropOld generation name serial says retired) dropped w h clear = subst (IsClear w Frame) (sym h) clear
 drops_clear change dropped w h clear = absurd h
 
-pub drops_publish : (s : ServerState) (change : Change) (serial : ℕ) → DropsCode change serial → is_some (made s change).answer.published ≡ true
+pub drops_publish : (s : ServerState) (change : Change) (serial : ℕ) → DropsCode change serial → is_some (change_made s change).answer.published ≡ true
 drops_publish s (DropOld generation name serial says retired) dropped h = refl
 drops_publish s change dropped h = absurd h
 
@@ -89,7 +89,7 @@ pub record KeepsTold (s : ServerState) (old new : WriterView) (cmd : Cmd) : Type
 
 pub drops_kept : (s : ServerState) (change : Change) (serial : ℕ) (old new : WriterView) (cmd : Cmd) → DropsCode change serial → IsToldByDrop s old serial cmd → KeepsDrop change old new → KeepsTold s old new cmd
 drops_kept s (DropOld generation name serial says retired) dropped old new cmd h told keeps =
-    let looks : new.looks ≡ with_dropped old.looks (drop_of old Frame dropped) = keeps.0 ∙ ap (λ n. with_dropped old.looks (drop_of old Frame n)) h in
+    let looks : new.looks ≡ with_drop_kept old.looks (drop_of old Frame dropped) = keeps.0 ∙ ap (λ n. with_drop_kept old.looks (drop_of old Frame n)) h in
     let agree : AgreesWithLooks old.looks (drop_of old Frame dropped) = subst (λ n. AgreesWithLooks old.looks (drop_of old Frame n)) h keeps.1 in
     record {
       more = record {
@@ -100,6 +100,11 @@ drops_kept s (DropOld generation name serial says retired) dropped old new cmd h
     }
 drops_kept s change dropped old new cmd h told keeps = absurd h
 
+-- of looks the drop is kept besides
+pub drops_looks : (change : Change) (serial : ℕ) (old new : WriterView) → DropsCode change serial → KeepsDrop change old new → IsCodeDropped serial old new
+drops_looks (DropOld generation name serial says retired) dropped old new h keeps = keeps.0 ∙ ap (λ n. with_drop_kept old.looks (drop_of old Frame n)) h
+drops_looks change dropped old new h keeps = absurd h
+
 pub dooms_renew : (change : Change) → DoomsCode change → IsRenewal change
 dooms_renew (Condemn generation serial) h = tt
 dooms_renew change h = absurd h
@@ -108,7 +113,7 @@ pub dooms_clear : (change : Change) (w : WriterView) → DoomsCode change → Is
 dooms_clear (Condemn generation serial) w h = tt
 dooms_clear change w h = absurd h
 
-pub dooms_publish : (s : ServerState) (change : Change) → DoomsCode change → is_some (made s change).answer.published ≡ true
+pub dooms_publish : (s : ServerState) (change : Change) → DoomsCode change → is_some (change_made s change).answer.published ≡ true
 dooms_publish s (Condemn generation serial) h = refl
 dooms_publish s change h = absurd h
 
@@ -124,49 +129,49 @@ dooms_kept s change old new cmd h told keeps = absurd h
 
 -- ---- the entry of a decided command
 
-abbrev made_to : PermitState → Applied → Option Step
+abbrev made_to : PermitState → Applied → Option PermitStep
 made_to q answer = Some (record { state = q; answer = answer })
 
 module _ (p : Book) (book : IsBook p) (who : ℕ) (d : Decision) (known : IsMadeBy (shown p) d) where
   -- the state behind it
-  pub state_behind : (made p.server d.change).state ≡ newest_state p.script.modules empty_state (p.journal ++ entry_for who d ∷ [])
+  pub state_behind : (change_made p.server d.change).state ≡ newest_state p.script.modules empty_state (p.journal ++ entry_for who d ∷ [])
   state_behind =
-      server_joined p.script p.server p.journal (entered_by p.holder p.loaders.items) book.permit.log (Loader who) d.cmd (made p.server d.change) known.given
+      server_joined p.script p.server p.journal (entered_by p.holder p.loaders.items) book.permit.log (Loader who) d.cmd (change_made p.server d.change) known.given
       ∙ ap (λ a. newest_state p.script.modules empty_state (p.journal ++ told_entry who d a ∷ [])) known.answer
 
   module _ (table : Modules) (same : table.instances ≡ p.modules.instances) (room : new_modules d.cmd ≤ table.room) (journal : List Entry) (more : journal ≡ p.journal ++ entry_for who d ∷ []) where
-    follows_by : (s : ServerState) (answer : Applied) → made p.server d.change ≡ record { state = s; answer = answer } → NewestFollows table s journal
+    follows_by : (s : ServerState) (answer : Applied) → change_made p.server d.change ≡ record { state = s; answer = answer } → NewestFollows table s journal
     follows_by s answer is =
         newest_follows p.script.modules table p.server s answer d.cmd p.journal journal (entry_for who d)
-        (subst (λ ms. Agrees ms p.server) (sym same) book.agrees)
+        (subst (λ ms. AgreesWithServer ms p.server) (sym same) book.agrees)
         (known.given ∙ ap Some is)
         room
         refl
         (ap (λ (a : Applied). a.published) (sym known.answer ∙ ap (λ (o : Outcome). o.answer) is))
         more
 
-    pub may_follow : CanFollowNewest table (made p.server d.change).state (newest_of journal)
-    may_follow = let f = follows_by (made p.server d.change).state (made p.server d.change).answer refl in f.can
+    pub may_follow : CanFollowNewest table (change_made p.server d.change).state (newest_of journal)
+    may_follow = let f = follows_by (change_made p.server d.change).state (change_made p.server d.change).answer refl in f.can
 
     -- the book once the change is made, and the loader is as far as before
-    module _ (server : ServerState) (applied : Applied) (made_is : made p.server d.change ≡ record { state = server; answer = applied }) (modules : Modules) (follows : modules.instances ≡ newest_followed table.instances server (newest_of journal)) where
+    module _ (server : ServerState) (applied : Applied) (made_is : change_made p.server d.change ≡ record { state = server; answer = applied }) (modules : Modules) (follows : modules.instances ≡ newest_followed table.instances server (newest_of journal)) where
       abbrev pub between : Book
       between = record p { server = server; journal = journal; modules = modules }
 
       pub made_between : made_of (shown p) (Loader who) d.cmd ≡ Some (record { state = shown between; answer = applied })
       made_between =
-          ap (option_map {U = Step} (λ o. record { state = joined (shown p) (Loader who) d.cmd o; answer = o.answer })) (known.given ∙ ap Some made_is)
+          ap (option_map {U = PermitStep} (λ o. record { state = joined (shown p) (Loader who) d.cmd o; answer = o.answer })) (known.given ∙ ap Some made_is)
           ∙ ap (λ (js : List Entry). made_to (record (shown p) { server = server; journal = js }) applied)
           (ap (λ a. p.journal ++ told_entry who d a ∷ []) (sym (ap (λ (o : Outcome). o.answer) made_is) ∙ known.answer) ∙ sym more)
 
-      pub agrees_between : Agrees modules.instances server
-      agrees_between = let f = follows_by server applied made_is in subst (λ ms. Agrees ms server) (sym follows) f.agrees
+      pub agrees_between : AgreesWithServer modules.instances server
+      agrees_between = let f = follows_by server applied made_is in subst (λ ms. AgreesWithServer ms server) (sym follows) f.agrees
 
 -- ---- the book once it is published
 
-module _ (names : List Mfa) (table : TableId) (opening : Opening) (b : WordBook) (had : HasItsTables names table opening b) (who : ℕ) (d : Decision) (known : IsMadeBy (shown b.plain) d) (publishing : is_some (made b.plain.server d.change).answer.published ≡ true)
+module _ (names : List Mfa) (table : TableId) (opening : Opening) (b : WordBook) (had : HasItsTables names table opening b) (who : ℕ) (d : Decision) (known : IsMadeBy (shown b.plain) d) (publishing : is_some (change_made b.plain.server d.change).answer.published ≡ true)
     (t : Tables) (of_table : AreTablesOf table opening t) (exports : t.exports ≡ names) (notes : (written_by t.writer).notes ≡ (written_by b.tables.writer).notes) (waits : KeepsWaits (written_by b.tables.writer) (written_by t.writer))
-    (keeps : KeepsTold b.plain.server (written_by b.tables.writer) (written_by t.writer) d.cmd) (next : Published) (shows : next.state ≡ generation_of names (made b.plain.server d.change).state)
+    (keeps : KeepsTold b.plain.server (written_by b.tables.writer) (written_by t.writer) d.cmd) (next : Published) (shows : next.state ≡ generation_of names (change_made b.plain.server d.change).state)
     (published : (written_by t.writer).published ≡ (written_by b.tables.writer).published ++ next ∷ []) where
   abbrev texts : List Module
   texts = b.plain.script.modules
@@ -183,7 +188,7 @@ module _ (names : List Mfa) (table : TableId) (opening : Opening) (b : WordBook)
       (published_more names texts b.plain.journal (entry_for who d) had.book.permit.log.replays (written_by b.tables.writer).published next had.published counts_one
       (shows ∙ ap (generation_of names) (state_behind b.plain had.book who d known)))
 
-  newest_counts : newest (written_by b.tables.writer).published ≡ published_count b.plain.journal
+  newest_counts : newest_number (written_by b.tables.writer).published ≡ published_count b.plain.journal
   newest_counts = omega (arith, had.published.many)
 
   told_now : IsAnswerKept (newest_state texts empty_state b.plain.journal) (published_count b.plain.journal) (written_by t.writer).looks d.cmd
@@ -199,8 +204,8 @@ module _ (names : List Mfa) (table : TableId) (opening : Opening) (b : WordBook)
   notes_longer : AreOfSpawned b.plain.script longer (written_by t.writer).notes
   notes_longer = subst (AreOfSpawned b.plain.script longer) (sym notes) (notes_later b.plain.script b.plain.journal (entry_for who d) (written_by b.tables.writer).notes had.notes)
 
-  pub published_book : (c : WordBook) → IsBook c.plain → c.plain.script ≡ b.plain.script → c.plain.journal ≡ longer → c.plain.server ≡ (made b.plain.server d.change).state → c.tables ≡ t → c.need ≡ b.need → c.look ≡ None → c.waiting ≡ None
-      → RestsBy names c.plain.holder (made b.plain.server d.change).state t → IsWordBook names table opening c
+  pub published_book : (c : WordBook) → IsBook c.plain → c.plain.script ≡ b.plain.script → c.plain.journal ≡ longer → c.plain.server ≡ (change_made b.plain.server d.change).state → c.tables ≡ t → c.need ≡ b.need → c.look ≡ None → c.waiting ≡ None
+      → RestsBy names c.plain.holder (change_made b.plain.server d.change).state t → IsWordBook names table opening c
   published_book c book script journal server tables_are need look waiting rests = record {
     has = record {
       book = book;
@@ -220,7 +225,7 @@ module _ (names : List Mfa) (table : TableId) (opening : Opening) (b : WordBook)
           (subst (λ (x : Tables). IfSome b.need (IsAwaited (written_by x.writer))) (sym tables_are)
           (need_on (written_by b.tables.writer) (written_by t.writer) (next ∷ []) b.need waits published had.awaited));
     };
-    words = subst (WordsStand names (shown c.plain) c.tables) (sym waiting) (subst (λ s. RestsBy names c.plain.holder s c.tables) (sym server) (subst (RestsBy names c.plain.holder (made b.plain.server d.change).state) (sym tables_are) rests));
+    words = subst (WordsStand names (shown c.plain) c.tables) (sym waiting) (subst (λ s. RestsBy names c.plain.holder s c.tables) (sym server) (subst (RestsBy names c.plain.holder (change_made b.plain.server d.change).state) (sym tables_are) rests));
     looked = no_look c look;
   }
 
@@ -234,14 +239,14 @@ pub record WasEnded (p : PermitState) (who : ℕ) (cmd : Cmd) (q : PermitState) 
   pub applied : apply_of p.script.modules p.server cmd ≡ Some outcome
   pub state : q ≡ record (joined p (Loader who) cmd outcome) { loaders = counted_in p.loaders who command; holder = Free }
 
-abbrev advanced_as : PermitState → OpStep → Advanced
+abbrev pub advanced_as : PermitState → OpStep → Advanced
 advanced_as q answer = record { state = q; answer = answer }
 
-pub was_ended : (p q : PermitState) (who : ℕ) (cmd : Cmd) (answer : OpStep) → ended_with p who cmd ≡ Some (record { state = q; answer = answer }) → WasEnded p who cmd q
+pub was_ended : (p q : PermitState) (who : ℕ) (cmd : Cmd) (answer : OpStep) → command_ended p who cmd ≡ Some (record { state = q; answer = answer }) → WasEnded p who cmd q
 was_ended p q who cmd answer h = by (next_of p who) (apply_of p.script.modules p.server cmd) refl refl h
   where
     by : (n : Option ScriptCmd) (o : Option Outcome) → next_of p who ≡ n → apply_of p.script.modules p.server cmd ≡ o
-        → option_and_then {U = Advanced} (λ command. option_map {U = Advanced} freed (option_map {U = Step} (λ s. record { state = record (s.state) { loaders = counted_in p.loaders who command }; answer = s.answer }) (option_map {U = Step} (λ x. record { state = joined p (Loader who) cmd x; answer = x.answer }) o))) n
+        → option_and_then {U = Advanced} (λ command. option_map {U = Advanced} freed (option_map {U = PermitStep} (λ s. record { state = record (s.state) { loaders = counted_in p.loaders who command }; answer = s.answer }) (option_map {U = PermitStep} (λ x. record { state = joined p (Loader who) cmd x; answer = x.answer }) o))) n
         ≡ Some (record { state = q; answer = answer }) → WasEnded p who cmd q
     by None o e f g = absurd (none-some _ g)
     by (Some command) None e f g = absurd (none-some _ g)
@@ -250,7 +255,7 @@ was_ended p q who cmd answer h = by (next_of p who) (apply_of p.script.modules p
         record { command = command; next = e; outcome = x; applied = f; state = sym (ap (λ (a : Advanced). a.state) s) }
 
 -- entries join, and no loader has fewer commands done
-pub ended_grown : (b c : Book) (who : ℕ) (cmd : Cmd) (answer : OpStep) → ended_with (shown b) who cmd ≡ Some (record { state = shown c; answer = answer }) → HasGrown b c
+pub ended_grown : (b c : Book) (who : ℕ) (cmd : Cmd) (answer : OpStep) → command_ended (shown b) who cmd ≡ Some (record { state = shown c; answer = answer }) → HasGrown b c
 ended_grown b c who cmd answer step =
     let e = was_ended (shown b) (shown c) who cmd answer step in
     record {
@@ -263,7 +268,7 @@ ended_grown b c who cmd answer step =
 -- ---- what is decided
 
 -- put together
-pub decided_made : (p : PermitState) (cmd : Cmd) (r : Result Decision NoMemory) → IfOk r (λ d. Fits p.server d.change) → IfOk r (λ d. apply_of p.script.modules p.server cmd ≡ Some (made p.server d.change)) → IfOk r (λ d. (made p.server d.change).answer ≡ d.applied)
+pub decided_made : (p : PermitState) (cmd : Cmd) (r : Result Decision NoMemory) → IfOk r (λ d. Fits p.server d.change) → IfOk r (λ d. apply_of p.script.modules p.server cmd ≡ Some (change_made p.server d.change)) → IfOk r (λ d. (change_made p.server d.change).answer ≡ d.applied)
     → IfOk r (λ d. d.cmd ≡ cmd) → IfOk r (IsMadeBy p)
 decided_made p cmd (Ok d) fits given answer same = record { fits = fits; given = ap (apply_of p.script.modules p.server) same ∙ given; answer = answer }
 decided_made p cmd (Err fault) fits given answer same = tt
@@ -273,7 +278,7 @@ pub doom_tells : (s : ServerState) (w : WriterView) (kept : WriterKept) (cmd : C
 doom_tells s w kept cmd name is = subst (IsToldBy s w kept) (sym is) tt
 
 -- the purge waits once the change is made
-pub doom_finished : (who : ℕ) (name : AtomId) (change : Change) (old : Book) (server : ServerState) (modules : Modules) (applied : Applied) → made old.server change ≡ record { state = server; answer = applied } → IsSound server
+pub doom_finished : (who : ℕ) (name : AtomId) (change : Change) (old : Book) (server : ServerState) (modules : Modules) (applied : Applied) → change_made old.server change ≡ record { state = server; answer = applied } → IsSound server
     → modules.instances ≡ newest_followed old.modules.instances server (newest_of old.journal) → IsDoomMade who name change old (record old { server = server; modules = modules; holder = Purging who name })
 doom_finished who name change old server modules applied made_is sound follows = record { applied = applied; made_is = made_is; state = refl; table = follows; sound = sound }
 

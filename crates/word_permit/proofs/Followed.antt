@@ -1,5 +1,5 @@
 -- How the loader that has the permission goes on: what its book is before and after.
-use Rattle.std.proofs.Common.{◌≡◌, ◌⊎◌, inl, inr, ℕ, List, [], Option, Some, None, IfSome, IsSomeAnd, IfOk, OnErr, Result, Ok, Err, refl, sym, ap, subst, ◌∙◌}
+use Rattle.std.proofs.Common.{◌≡◌, ◌⊎◌, inl, inr, ℕ, ◌≤◌, List, [], Option, Some, None, IfSome, IsSomeAnd, IfOk, OnErr, Result, Ok, Err, refl, sym, ap, subst, ◌∙◌}
 use Rattle.std.proofs.lemmas.Option.{same_Some}
 use Rattle.atomic_table.specs.Seated.{TableId}
 use Rattle.term_core.specs.declared.atom.AtomId.{AtomId}
@@ -12,26 +12,26 @@ use Rattle.server_core.specs.declared.change.Change.{Change}
 use Rattle.server_core.specs.declared.change.Change.TheVariants.{Nothing}
 use Rattle.server_core.specs.declared.command.Cmd.{Cmd}
 use Rattle.server_core.specs.CommandTable.{apply_of}
-use Rattle.server_core.specs.Decided.{Fits, made}
+use Rattle.server_core.specs.Decided.{Fits, change_made}
 use Rattle.server_core.specs.ServerState.{ServerState}
 use Rattle.script_core.specs.declared.script.ScriptCmd.{ScriptCmd}
 use Rattle.script_core.specs.declared.script.ScriptCmd.TheVariants.{Purge}
 use Rattle.staging.specs.declared.tables.Tables.{Tables}
-use Rattle.staging.specs.Stages.{AreAtRest, IsStaged, StageStands}
+use Rattle.staging.specs.Stages.{AreAtRest, IsStaged, StageStands, stage_number}
 use Rattle.staging.specs.Traced.{IsPatchLate, IsTraceChange}
 use Rattle.write_permit.specs.declared.book.Book.{Book}
 use Rattle.write_permit.specs.declared.holder.Holder.TheVariants.{Free, Held}
 use Rattle.write_permit.specs.Book.{IsBook, PurgeWaits, shown}
-use Rattle.write_permit.specs.Permit.{PermitState, entered_trace, given_up, holder_of, next_of, opening}
+use Rattle.write_permit.specs.Permit.{PermitState, entered_trace, given_up, holder_of, next_of, command_opening}
 use Rattle.write_permit.proofs.EndBooks.{book_given}
 use Rattle.word_permit.specs.declared.answers.CommandStep.{CommandStep}
 use Rattle.word_permit.specs.declared.answers.CommandStep.TheVariants.{Done, NotYet, AwaitRelease, Lingers}
 use Rattle.word_permit.specs.declared.book.Decision.{Decision}
 use Rattle.word_permit.specs.declared.book.Waiting.{Waiting}
 use Rattle.word_permit.specs.declared.book.WordBook.{WordBook}
-use Rattle.word_permit.specs.Books.{AwaitsPatch, HasEntered, HasGivenUp, HasItsTables, HasTakenBack, IsWordBook, JoinsUnpublished, OpAnswers, StillSettles, with_holder}
+use Rattle.word_permit.specs.Books.{AwaitsPatch, HasEntered, HasGivenUp, HasItsTables, HasTakenBack, IsWordBook, JoinsUnpublished, OpAnswers, StageGoesOn, StillSettles, with_holder}
 use Rattle.word_permit.specs.Waiting.{GoesOverWords, IsDecided, IsWaiting, LeavesState, WordsStand}
-use Rattle.word_permit.proofs.Calls.{has_joined, no_look}
+use Rattle.word_permit.proofs.Calls.{has_joined, no_look, none_before}
 use Rattle.word_permit.proofs.Resting.{IsNoTrace, free_no_trace, none_waiting, rest_by, rests_by, rests_given}
 
 -- ---- the command that waits is taken out of the book
@@ -39,8 +39,8 @@ use Rattle.word_permit.proofs.Resting.{IsNoTrace, free_no_trace, none_waiting, r
 abbrev with_waiting : WordBook → Option Waiting → WordBook
 with_waiting b waiting = record b { waiting = waiting }
 
-pub has_without : (names : List Mfa) (table : TableId) (opening : Opening) (b : WordBook) (o : Option Waiting) → HasItsTables names table opening b → HasItsTables names table opening (with_waiting b o)
-has_without names table opening b o had = record { book = had.book; texts = had.texts; tables = had.tables; exports = had.exports; published = had.published; notes = had.notes; answered = had.answered; awaited = had.awaited }
+pub has_without : (names : List Mfa) (table : TableId) (command_opening : Opening) (b : WordBook) (o : Option Waiting) → HasItsTables names table command_opening b → HasItsTables names table command_opening (with_waiting b o)
+has_without names table command_opening b o had = record { book = had.book; texts = had.texts; tables = had.tables; exports = had.exports; published = had.published; notes = had.notes; answered = had.answered; awaited = had.awaited }
 
 -- what the words are about, where nothing waits
 pub at_rest : (names : List Mfa) (p : PermitState) (t : Tables) (o : Option Waiting) → o ≡ None → IsNoTrace p.holder → WordsStand names p t o → AreAtRest names p.server t
@@ -88,34 +88,36 @@ pub staged_left : (change : Change) → IsStaged change ⊎ IsTraceChange change
 staged_left change (inl staged) other = staged
 staged_left change (inr trace) other = absurd (other trace)
 
--- what is said of a step speaks of the command that waited before by its decision alone
-answers_without : (who : ℕ) (b : WordBook) (o : Option Waiting) (c : WordBook) (step : CommandStep) → ((w : Waiting) → c.waiting ≡ Some w → IfSome b.waiting (λ before. w.decision ≡ before.decision)) → OpAnswers who (with_waiting b o) c step → OpAnswers who b c step
-answers_without who b o c (Done applied) same h = h
-answers_without who b o c (NotYet answer) same (inl h) =
-    inl (record { same = h.same; published = h.published; waits = h.waits; why = record { waiting = h.why.waiting; waits = h.why.waits; same = same h.why.waiting h.why.waits; late = h.why.late } })
-answers_without who b o c (NotYet answer) same (inr h) = inr (patch_waits who (with_waiting b o) b c answer refl refl h)
-answers_without who b o c AwaitRelease same h =
-    record { same = h.same; published = h.published; waits = h.waits; why = record { waiting = h.why.waiting; waits = h.why.waits; same = same h.why.waiting h.why.waits; lacks = h.why.lacks } }
-answers_without who b o c (Lingers process turn place word) same h = h
+-- what is said of a step speaks of the command that waited before by its decision and its stage alone
+answers_without : (who : ℕ) (b : WordBook) (o : Option Waiting) (c : WordBook) (step : CommandStep) → ((w : Waiting) → c.waiting ≡ Some w → IfSome b.waiting (λ before. w.decision ≡ before.decision)) → StageGoesOn b.waiting c.waiting → OpAnswers who (with_waiting b o) c step → OpAnswers who b c step
+answers_without who b o c (Done applied) same on h = h
+answers_without who b o c (NotYet answer) same on (inl h) =
+    inl (record { same = h.same; published = h.published; waits = h.waits; forward = on; why = record { waiting = h.why.waiting; waits = h.why.waits; same = same h.why.waiting h.why.waits; late = h.why.late } })
+answers_without who b o c (NotYet answer) same on (inr h) = inr (patch_waits who (with_waiting b o) b c answer refl refl h)
+answers_without who b o c AwaitRelease same on h =
+    record { same = h.same; published = h.published; waits = h.waits; forward = on; why = record { waiting = h.why.waiting; waits = h.why.waits; same = same h.why.waiting h.why.waits; lacks = h.why.lacks } }
+answers_without who b o c (Lingers process turn place word) same on h = h
 
 -- where none waited
 pub answers_begun : (who : ℕ) (b : WordBook) (o : Option Waiting) (c : WordBook) (r : Result CommandStep NoMemory) → b.waiting ≡ None → IfOk r (OpAnswers who (with_waiting b o) c) → IfOk r (OpAnswers who b c)
-answers_begun who b o c (Ok step) none h = answers_without who b o c step (λ w is. subst (λ (x : Option Waiting). IfSome x (λ before. w.decision ≡ before.decision)) (sym none) tt) h
+answers_begun who b o c (Ok step) none h = answers_without who b o c step (λ w is. subst (λ (x : Option Waiting). IfSome x (λ before. w.decision ≡ before.decision)) (sym none) tt) (none_before b.waiting c.waiting none) h
 answers_begun who b o c (Err fault) none h = tt
 
 -- and where one waits on as it was decided
-pub answers_waiting : (who : ℕ) (b : WordBook) (o : Option Waiting) (c : WordBook) (r : Result CommandStep NoMemory) (before : Waiting) → b.waiting ≡ Some before → IfOk r (λ step. IfSome c.waiting (λ w. w.decision ≡ before.decision)) → IfOk r (OpAnswers who (with_waiting b o) c) → IfOk r (OpAnswers who b c)
-answers_waiting who b o c (Ok step) before waited decision h =
+pub answers_waiting : (who : ℕ) (b : WordBook) (o : Option Waiting) (c : WordBook) (r : Result CommandStep NoMemory) (before : Waiting) → b.waiting ≡ Some before → IfOk r (λ step. IfSome c.waiting (λ w. w.decision ≡ before.decision))
+    → IfOk r (λ step. IfSome c.waiting (λ w. stage_number before.stage ≤ stage_number w.stage)) → IfOk r (OpAnswers who (with_waiting b o) c) → IfOk r (OpAnswers who b c)
+answers_waiting who b o c (Ok step) before waited decision forward h =
     answers_without who b o c step
-    (λ w is. subst (λ (x : Option Waiting). IfSome x (λ v. w.decision ≡ v.decision)) (sym waited) (subst (λ (x : Option Waiting). IfSome x (λ v. v.decision ≡ before.decision)) is decision)) h
-answers_waiting who b o c (Err fault) before waited decision h = tt
+    (λ w is. subst (λ (x : Option Waiting). IfSome x (λ v. w.decision ≡ v.decision)) (sym waited) (subst (λ (x : Option Waiting). IfSome x (λ v. v.decision ≡ before.decision)) is decision))
+    (subst (λ (x : Option Waiting). StageGoesOn x c.waiting) (sym waited) forward) h
+answers_waiting who b o c (Err fault) before waited decision forward h = tt
 
 pub taken_without : (b : WordBook) (o : Option Waiting) (c : WordBook) → HasTakenBack (with_waiting b o) c → HasTakenBack b c
 taken_without b o c h = record { same = h.same; published = h.published; none = h.none }
 
 -- a look that was waited for is forgotten
-pub unlooked : (names : List Mfa) (table : TableId) (opening : Opening) (b : WordBook) → IsWordBook names table opening b → IsWordBook names table opening (record b { look = None })
-unlooked names table opening b known =
+pub unlooked : (names : List Mfa) (table : TableId) (command_opening : Opening) (b : WordBook) → IsWordBook names table command_opening b → IsWordBook names table command_opening (record b { look = None })
+unlooked names table command_opening b known =
     let had = known.has in
     record {
       has = record { book = had.book; texts = had.texts; tables = had.tables; exports = had.exports; published = had.published; notes = had.notes; answered = had.answered; awaited = had.awaited };
@@ -126,10 +128,10 @@ unlooked names table opening b known =
 pub answers_unlooked : (who : ℕ) (b c : WordBook) (step : CommandStep) → OpAnswers who (record b { look = None }) c step → OpAnswers who b c step
 answers_unlooked who b c (Done applied) h = h
 answers_unlooked who b c (NotYet answer) (inl h) =
-    inl (record { same = h.same; published = h.published; waits = h.waits; why = record { waiting = h.why.waiting; waits = h.why.waits; same = h.why.same; late = h.why.late } })
+    inl (record { same = h.same; published = h.published; waits = h.waits; forward = h.forward; why = record { waiting = h.why.waiting; waits = h.why.waits; same = h.why.same; late = h.why.late } })
 answers_unlooked who b c (NotYet answer) (inr h) = inr (patch_waits who (record b { look = None }) b c answer refl refl h)
 answers_unlooked who b c AwaitRelease h =
-    record { same = h.same; published = h.published; waits = h.waits; why = record { waiting = h.why.waiting; waits = h.why.waits; same = h.why.same; lacks = h.why.lacks } }
+    record { same = h.same; published = h.published; waits = h.waits; forward = h.forward; why = record { waiting = h.why.waiting; waits = h.why.waits; same = h.why.same; lacks = h.why.lacks } }
 answers_unlooked who b c (Lingers process turn place word) h = h
 
 pub taken_unlooked : (b c : WordBook) → HasTakenBack (record b { look = None }) c → HasTakenBack b c
@@ -146,8 +148,8 @@ pub purging_apart : (p : PermitState) (n who : ℕ) (name : AtomId) → PurgeWai
 purging_apart p n who name holds own goes = goes_next (next_of p who) (Purge name) (ap (next_of p) (sym own) ∙ holds.next) goes
 
 -- what was decided of it, put together
-pub decided_all : (p : PermitState) (who : ℕ) (command : ScriptCmd) (cmd : Cmd) (r : Result Decision NoMemory) → next_of p who ≡ Some command → GoesOverWords command → cmd ≡ opening p.server [] command
-    → IfOk r (λ d. Fits p.server d.change) → IfOk r (λ d. apply_of p.script.modules p.server cmd ≡ Some (made p.server d.change)) → IfOk r (λ d. (made p.server d.change).answer ≡ d.applied) → IfOk r (λ d. d.cmd ≡ cmd) → IfOk r (IsDecided p who)
+pub decided_all : (p : PermitState) (who : ℕ) (command : ScriptCmd) (cmd : Cmd) (r : Result Decision NoMemory) → next_of p who ≡ Some command → GoesOverWords command → cmd ≡ command_opening p.server [] command
+    → IfOk r (λ d. Fits p.server d.change) → IfOk r (λ d. apply_of p.script.modules p.server cmd ≡ Some (change_made p.server d.change)) → IfOk r (λ d. (change_made p.server d.change).answer ≡ d.applied) → IfOk r (λ d. d.cmd ≡ cmd) → IfOk r (IsDecided p who)
 decided_all p who command cmd (Ok d) next goes is fits given answer same = record {
   command = command;
   next = next;
@@ -162,25 +164,25 @@ decided_all p who command cmd (Err fault) next goes is fits given answer same = 
 -- ---- a change that leaves the server's state
 
 pub record Leaves (s : ServerState) (change : Change) : Type 0 where
-  pub state : (made s change).state ≡ s
-  pub published : (made s change).answer.published ≡ None
+  pub state : (change_made s change).state ≡ s
+  pub published : (change_made s change).answer.published ≡ None
 
 pub leaves_state : (s : ServerState) (change : Change) → LeavesState change → Leaves s change
 leaves_state s (Nothing reply) h = record { state = refl; published = refl }
 leaves_state s change h = absurd h
 
 -- the book after it, where the words stay
-pub ended_book : (names : List Mfa) (table : TableId) (opening : Opening) (b : WordBook) (plain : Book) → HasItsTables names table opening b → AreAtRest names b.plain.server b.tables → b.waiting ≡ None → b.look ≡ None → IsBook plain → plain.script ≡ b.plain.script
-    → plain.holder ≡ Free → plain.server ≡ b.plain.server → JoinsUnpublished b.plain.journal plain.journal → IsWordBook names table opening (record b { plain = plain })
-ended_book names table opening b plain had rest none look book script free server journal = record {
-  has = has_joined names table opening b (record b { plain = plain }) had book script journal refl refl;
+pub ended_book : (names : List Mfa) (table : TableId) (command_opening : Opening) (b : WordBook) (plain : Book) → HasItsTables names table command_opening b → AreAtRest names b.plain.server b.tables → b.waiting ≡ None → b.look ≡ None → IsBook plain → plain.script ≡ b.plain.script
+    → plain.holder ≡ Free → plain.server ≡ b.plain.server → JoinsUnpublished b.plain.journal plain.journal → IsWordBook names table command_opening (record b { plain = plain })
+ended_book names table command_opening b plain had rest none look book script free server journal = record {
+  has = has_joined names table command_opening b (record b { plain = plain }) had book script journal refl refl;
   words = subst (WordsStand names (shown plain) b.tables) (sym none) (rests_by names plain.holder plain.server b.tables (free_no_trace plain.holder free) (subst (λ s. AreAtRest names s b.tables) (sym server) rest));
   looked = no_look b look;
 }
 
 -- the book where want of memory came before any word was stored
-pub refused_book : (names : List Mfa) (table : TableId) (opening : Opening) (b : WordBook) → HasItsTables names table opening b → IsNoTrace b.plain.holder → AreAtRest names b.plain.server b.tables → b.waiting ≡ None → b.look ≡ None → IsWordBook names table opening b
-refused_book names table opening b had untraced rest none look = record {
+pub refused_book : (names : List Mfa) (table : TableId) (command_opening : Opening) (b : WordBook) → HasItsTables names table command_opening b → IsNoTrace b.plain.holder → AreAtRest names b.plain.server b.tables → b.waiting ≡ None → b.look ≡ None → IsWordBook names table command_opening b
+refused_book names table command_opening b had untraced rest none look = record {
   has = had;
   words = subst (WordsStand names (shown b.plain) b.tables) (sym none) (rests_by names b.plain.holder b.plain.server b.tables untraced rest);
   looked = no_look b look;
@@ -188,10 +190,10 @@ refused_book names table opening b had untraced rest none look = record {
 
 -- ---- the permission is given up
 
-pub given_word_book : (names : List Mfa) (table : TableId) (opening : Opening) (m c : WordBook) → IsWordBook names table opening m → m.waiting ≡ None → c ≡ with_holder m (given_up m.plain.holder) → IsWordBook names table opening c
-given_word_book names table opening m c known none is =
+pub given_word_book : (names : List Mfa) (table : TableId) (command_opening : Opening) (m c : WordBook) → IsWordBook names table command_opening m → m.waiting ≡ None → c ≡ with_holder m (given_up m.plain.holder) → IsWordBook names table command_opening c
+given_word_book names table command_opening m c known none is =
     let h = given_up m.plain.holder in
-    subst (IsWordBook names table opening) (sym is)
+    subst (IsWordBook names table command_opening) (sym is)
     (record {
       has = record {
         book = book_given m.plain (record (m.plain) { holder = h }) h known.has.book refl refl refl;

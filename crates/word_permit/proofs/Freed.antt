@@ -22,7 +22,7 @@ use Rattle.server_core.specs.declared.command.Cmd.TheVariants as cmds
 use Rattle.server_core.specs.declared.command.Reply.{Reply}
 use Rattle.server_core.specs.declared.command.Reply.TheVariants as replies
 use Rattle.server_core.specs.CommandTable.{unchanged, with_all, with_loaded, with_released}
-use Rattle.server_core.specs.Decided.{IsNoRelease, StayFit, made}
+use Rattle.server_core.specs.Decided.{IsNoRelease, StayFit, change_made}
 use Rattle.server_core.specs.ServerState.{ServerState, is_retired}
 use Rattle.script_core.specs.declared.script.ScriptCmd.{ScriptCmd}
 use Rattle.script_core.specs.declared.script.ScriptCmd.TheVariants.{Load, Delete, Put, Erase, Trace}
@@ -38,7 +38,7 @@ use Rattle.staging.specs.Whose.{AreTablesOf}
 use Rattle.write_permit.specs.declared.holder.Holder.{Holder}
 use Rattle.write_permit.specs.declared.holder.Holder.TheVariants.{Free, Held, Purging, Tracing}
 use Rattle.write_permit.specs.Book.{IsBook, shown}
-use Rattle.write_permit.specs.Permit.{PermitState, joined, made_of, opening}
+use Rattle.write_permit.specs.Permit.{PermitState, joined, made_of, command_opening}
 use Rattle.write_permit.proofs.BookKeeps.{was_made}
 use Rattle.run_law.specs.Answers.{AreAnswersKept, HasDrop}
 use Rattle.run_law.specs.Published.{ArePublished}
@@ -63,8 +63,8 @@ pub record HasFreed (p : PermitState) (serial : ℕ) (q : PermitState) : Type 0 
   pub state : q ≡ joined p Runtime (cmds.Release serial) (unchanged (with_released p.server serial) replies.Ok)
 
 pub has_freed : (p q : PermitState) (serial : ℕ) (answer : Applied) → made_of p Runtime (cmds.Release serial) ≡ Some (record { state = q; answer = answer }) → IsTrue (is_retired p.server serial) → HasFreed p serial q
-has_freed p q serial answer made waits =
-    let w = was_made p Runtime (cmds.Release serial) q answer made in
+has_freed p q serial answer change_made waits =
+    let w = was_made p Runtime (cmds.Release serial) q answer change_made in
     let is : unchanged (with_released p.server serial) replies.Ok ≡ w.outcome = same_Some _ w.outcome (sym (ap (λ b. if b then Some (unchanged (with_released p.server serial) replies.Ok) else None) waits) ∙ w.applied) in
     record { state = w.state ∙ ap (joined p Runtime (cmds.Release serial)) (sym is) }
 
@@ -118,31 +118,31 @@ abbrev answered_at : Reply → ℕ → Applied
 answered_at reply generation = record { reply = reply; published = Some (generation + 1) }
 
 -- what it answers stays
-answer_stays : (s : ServerState) (serial : ℕ) (change : Change) → IsStaged change → (made (with_released s serial) change).answer ≡ (made s change).answer
+answer_stays : (s : ServerState) (serial : ℕ) (change : Change) → IsStaged change → (change_made (with_released s serial) change).answer ≡ (change_made s change).answer
 answer_stays s serial change (inl code) = by_code change code
   where
-    by_code : (change : Change) → IsCodeChange change → (made (with_released s serial) change).answer ≡ (made s change).answer
+    by_code : (change : Change) → IsCodeChange change → (change_made (with_released s serial) change).answer ≡ (change_made s change).answer
     by_code (BringIn generation modules areas versions) h = ap (answered_at replies.Ok) (loads_stay (with_released s serial) modules.items ∙ sym (loads_stay s modules.items))
     by_code (MakeOld generation name) h = refl
     by_code change h = absurd h
 answer_stays s serial change (inr key) = by_key change key
   where
-    by_key : (change : Change) → IsKeyChange change → (made (with_released s serial) change).answer ≡ (made s change).answer
+    by_key : (change : Change) → IsKeyChange change → (change_made (with_released s serial) change).answer ≡ (change_made s change).answer
     by_key (HoldWord generation key term keys retired) h = refl
     by_key (HoldArea generation key term stored areas keys retired) h = refl
     by_key (Forget generation key retired) h = refl
     by_key change h = absurd h
 
-trace_stays : (s : ServerState) (serial : ℕ) (change : Change) → IsTraceChange change → (made (with_released s serial) change).answer ≡ (made s change).answer
+trace_stays : (s : ServerState) (serial : ℕ) (change : Change) → IsTraceChange change → (change_made (with_released s serial) change).answer ≡ (change_made s change).answer
 trace_stays s serial (SetTrace generation at traced) h = refl
 trace_stays s serial (ClearTrace generation at) h = refl
 trace_stays s serial change h = absurd h
 
-waits_stay : (s : ServerState) (serial : ℕ) (change : Change) → IsStaged change ⊎ IsTraceChange change → (made (with_released s serial) change).answer ≡ (made s change).answer
+waits_stay : (s : ServerState) (serial : ℕ) (change : Change) → IsStaged change ⊎ IsTraceChange change → (change_made (with_released s serial) change).answer ≡ (change_made s change).answer
 waits_stay s serial change (inl staged) = answer_stays s serial change staged
 waits_stay s serial change (inr trace) = trace_stays s serial change trace
 
-opens_same : (s t : ServerState) (command : ScriptCmd) → GoesOverWords command → opening s [] command ≡ opening t [] command
+opens_same : (s t : ServerState) (command : ScriptCmd) → GoesOverWords command → command_opening s [] command ≡ command_opening t [] command
 opens_same s t (Load refs) h = refl
 opens_same s t (Delete name) h = refl
 opens_same s t (Put key term) h = refl
@@ -185,8 +185,8 @@ words_freed names p q serial t u (Some w) decided fit freed stands stages settle
 
 -- ---- the book
 
-module _ (names : List Mfa) (table : TableId) (opening : Opening) (b c : WordBook) (serial : ℕ) (known : IsWordBook names table opening b) (book : IsBook c.plain) (freed : HasFreed (shown b.plain) serial (shown c.plain))
-    (tables : AreTablesOf table opening c.tables) (exports : c.tables.exports ≡ b.tables.exports) (keeps : KeepsRelease serial (written_by b.tables.writer) (written_by c.tables.writer)) where
+module _ (names : List Mfa) (table : TableId) (command_opening : Opening) (b c : WordBook) (serial : ℕ) (known : IsWordBook names table command_opening b) (book : IsBook c.plain) (freed : HasFreed (shown b.plain) serial (shown c.plain))
+    (tables : AreTablesOf table command_opening c.tables) (exports : c.tables.exports ≡ b.tables.exports) (keeps : KeepsRelease serial (written_by b.tables.writer) (written_by c.tables.writer)) where
   abbrev before : WriterView
   before = written_by b.tables.writer
 
@@ -211,7 +211,7 @@ module _ (names : List Mfa) (table : TableId) (opening : Opening) (b c : WordBoo
     lingering = λ l had. subst (λ (k : WriterKept). Among k.lingering l) (sym keeps.looks) had;
   })
 
-  pub freed_book : c.need ≡ b.need → c.look ≡ None → c.waiting ≡ b.waiting → DecidedStays → StayFit → StandReleased names serial b.tables c.tables → StagesReleased names serial b.tables c.tables → SettlingReleased names serial b.tables c.tables → IsWordBook names table opening c
+  pub freed_book : c.need ≡ b.need → c.look ≡ None → c.waiting ≡ b.waiting → DecidedStays → StayFit → StandReleased names serial b.tables c.tables → StagesReleased names serial b.tables c.tables → SettlingReleased names serial b.tables c.tables → IsWordBook names table command_opening c
   freed_book need look waiting decided fit stands stages settles = record {
     has = record {
       book = book;

@@ -15,7 +15,7 @@ use Rattle.write_permit.specs.declared.commands.OldCode.{OldCode}
 use Rattle.write_permit.specs.declared.holder.Holder.{Holder}
 use Rattle.write_permit.specs.declared.holder.Holder.TheVariants.{Free, Held, Purging, Tracing}
 use Rattle.write_permit.specs.Book.{IsBook, shown}
-use Rattle.write_permit.specs.Permit.{Advanced, PermitState, advanced, begun, done_of, entered_trace, next_of, opening, purged_code, settled}
+use Rattle.write_permit.specs.Permit.{Advanced, PermitState, advanced, command_begun, done_of, entered_trace, next_of, command_opening, purged_code, settled}
 use Rattle.write_permit.proofs.Entered.{entered_grows}
 use Rattle.write_permit.proofs.Traces.{traced_whole, was_entered}
 use Rattle.word_permit.specs.declared.answers.CommandStep.{CommandStep}
@@ -56,11 +56,11 @@ grown_settled b c by generation answer h =
 grown_ended : (b c : Book) (who : ℕ) (answer : OpStep) → advanced (shown b) [] who b.holder ≡ advanced_to (shown c) answer → HasGrown b c
 grown_ended b c who answer h = by b.holder h
   where
-    by_code : (command : ScriptCmd) (code : Option OldCode) → begun (shown b) [] who command code ≡ advanced_to (shown c) answer → HasGrown b c
-    by_code command None e = ended_grown b c who (opening b.server [] command) answer e
+    by_code : (command : ScriptCmd) (code : Option OldCode) → command_begun (shown b) [] who command code ≡ advanced_to (shown c) answer → HasGrown b c
+    by_code command None e = ended_grown b c who (command_opening b.server [] command) answer e
     by_code command (Some code) e = absurd (none-some _ e)
 
-    by_next : (o : Option ScriptCmd) → option_and_then {U = Advanced} (λ command. begun (shown b) [] who command (purged_code b.server command)) o ≡ advanced_to (shown c) answer → HasGrown b c
+    by_next : (o : Option ScriptCmd) → option_and_then {U = Advanced} (λ command. command_begun (shown b) [] who command (purged_code b.server command)) o ≡ advanced_to (shown c) answer → HasGrown b c
     by_next None e = absurd (none-some _ e)
     by_next (Some command) e = by_code command (purged_code b.server command) e
 

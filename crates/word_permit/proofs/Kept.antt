@@ -8,7 +8,7 @@ use Rattle.shared_words.specs.declared.view.WriterView.{WriterView}
 use Rattle.progress_words.specs.Tokens.{written_by}
 use Rattle.change_laws.specs.Names.{CommandsKeepNumbers, IsNumbered}
 use Rattle.server_core.specs.declared.change.Change.{Change}
-use Rattle.server_core.specs.Decided.{made}
+use Rattle.server_core.specs.Decided.{change_made}
 use Rattle.server_core.specs.Generations.{AreNumbered}
 use Rattle.server_core.specs.ServerState.{ServerState}
 use Rattle.script_core.specs.declared.script.ScriptCmd.{ScriptCmd}
@@ -21,7 +21,7 @@ use Rattle.staging.specs.Stages.{AreAtRest, LeavesView, StageStands}
 use Rattle.staging.specs.Whose.{AreTablesOf, KeepsKnown}
 use Rattle.write_permit.specs.declared.book.Book.{Book}
 use Rattle.write_permit.specs.declared.holder.Holder.TheVariants.{Held}
-use Rattle.write_permit.specs.Agreement.{Agrees}
+use Rattle.write_permit.specs.Agreement.{AgreesWithServer}
 use Rattle.write_permit.specs.Book.{EndsBy, shown}
 use Rattle.write_permit.specs.Permit.{PermitState, next_of, purged_code}
 use Rattle.write_permit.proofs.BookKeeps.{book_by}
@@ -79,7 +79,7 @@ known_abandoned (Exported areas) a b is = record { published = ap (λ (w : Write
 pub has_same : (names : List Mfa) (table : TableId) (opening : Opening) (b c : WordBook) → HasItsTables names table opening b → shown c.plain ≡ shown b.plain → c.plain.modules.instances ≡ b.plain.modules.instances → AreTablesOf table opening c.tables
     → c.tables.exports ≡ names → PublishesNone b c → KeepsAllKnown b c → c.need ≡ b.need → HasItsTables names table opening c
 has_same names table opening b c had same modules tables exports none known need = record {
-  book = book_by c.plain (shown b.plain) same had.book.permit (subst (λ ms. Agrees ms c.plain.server) (sym modules) (subst (Agrees b.plain.modules.instances) (sym (ap (λ (x : PermitState). x.server) same)) had.book.agrees));
+  book = book_by c.plain (shown b.plain) same had.book.permit (subst (λ ms. AgreesWithServer ms c.plain.server) (sym modules) (subst (AgreesWithServer b.plain.modules.instances) (sym (ap (λ (x : PermitState). x.server) same)) had.book.agrees));
   texts = subst (λ (x : PermitState). All (IsNumbered names) x.script.modules) (sym same) had.texts;
   tables = tables;
   exports = exports;
@@ -122,9 +122,9 @@ stage_numbered names s change t Patching h = h.stands.numbered
 
 -- and so they have once the command is made
 pub made_numbered : (names : List Mfa) (table : TableId) (opening : Opening) (b : WordBook) (who : ℕ) (d : Decision) (stage : Stage) → CommandsKeepNumbers → HasItsTables names table opening b → IsDecided (shown b.plain) who d
-    → StageStands names b.plain.server d.change b.tables stage → AreNumbered names (made b.plain.server d.change).state
+    → StageStands names b.plain.server d.change b.tables stage → AreNumbered names (change_made b.plain.server d.change).state
 made_numbered names table opening b who d stage law had known stands =
-    law names b.plain.script.modules b.plain.server d.cmd (made b.plain.server d.change) had.book.permit.sound had.texts (stage_numbered names b.plain.server d.change b.tables stage stands) known.given
+    law names b.plain.script.modules b.plain.server d.cmd (change_made b.plain.server d.change) had.book.permit.sound had.texts (stage_numbered names b.plain.server d.change b.tables stage stands) known.given
 
 -- a generation more has room, where its number has
 pub numbers_left : (names : List Mfa) (table : TableId) (opening : Opening) (b : WordBook) → HasItsTables names table opening b → b.plain.server.generation + 1 < 2 ^ 40 → length (written_by b.tables.writer).published < 2 ^ 40

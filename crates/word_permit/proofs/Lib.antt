@@ -20,6 +20,7 @@ pub mod Looked
 pub mod Told
 pub mod OldCode
 pub mod Dropped
+pub mod Replies
 pub mod Lingered
 pub mod PurgeCalls
 pub mod Switched

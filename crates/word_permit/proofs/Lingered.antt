@@ -1,5 +1,5 @@
 -- The answer that a process lingers is kept where the anchor names the instance still.
-use Rattle.std.proofs.Common.{◌≡◌, ℕ, suc, Bool, true, false, List, slice_get, Option, Some, None, IfSome, if◌then◌else◌, sym, ap, subst, ◌∙◌}
+use Rattle.std.proofs.Common.{◌≡◌, ℕ, suc, Bool, true, false, List, slice_get, Option, Some, None, IfSome, if◌then◌else◌, refl, sym, ap, subst, ◌∙◌}
 use Rattle.std.proofs.lemmas.Option.{none-some}
 use Rattle.atomic_table.specs.Seated.{TableId}
 use Rattle.term_core.specs.declared.atom.Mfa.{Mfa}
@@ -11,7 +11,7 @@ use Rattle.shared_words.specs.declared.opening.Opening.{Opening}
 use Rattle.shared_words.specs.declared.seats.Writer as writers
 use Rattle.shared_words.specs.declared.view.WriterView.{WriterView}
 use Rattle.shared_words.specs.Lingering.{IsLooked, lingering_found, lingering_of, with_lingering}
-use Rattle.shared_words.specs.Views.{newest}
+use Rattle.shared_words.specs.Views.{newest_number}
 use Rattle.progress_words.specs.Tokens.{IsWriterOf, written_by}
 use Rattle.anchors.specs.declared.answers.Scan.TheVariants as scans
 use Rattle.server_core.specs.declared.command.Linger.{Linger}
@@ -20,6 +20,7 @@ use Rattle.run_law.specs.Answers.{HasLingering}
 use Rattle.word_permit.specs.declared.book.WordBook.{WordBook}
 use Rattle.word_permit.specs.Books.{IsWordBook}
 use Rattle.word_permit.specs.Looks.{HasLooked, newest_wait}
+use Rattle.word_permit.specs.Purged.{IsLingerKept}
 use Rattle.word_permit.proofs.Answered.{KeepsAnswers}
 use Rattle.word_permit.proofs.Looked.{linger_same}
 use Rattle.word_permit.proofs.Quiet.{book_found, with_writer}
@@ -40,11 +41,20 @@ linger_of process turn = record { process = process; turn = turn }
 
 -- it is kept
 pub if_kept : (old new : WriterView) (found serial process turn place word : ℕ) → HasLooked serial old (scans.Named process turn place word) → new ≡ lingering_found found (lingering_of old process serial turn) old
-    → (told : Option Linger) → told ≡ (if names_frame found serial then Some (linger_of process turn) else None) → IfSome told (HasLingering new.looks serial (newest old.published))
-if_kept old new found serial process turn place word looked is told same = subst (λ o. IfSome o (HasLingering new.looks serial (newest old.published))) (sym same) (by (names_frame found serial) is)
+    → (told : Option Linger) → told ≡ (if names_frame found serial then Some (linger_of process turn) else None) → IfSome told (HasLingering new.looks serial (newest_number old.published))
+if_kept old new found serial process turn place word looked is told same = subst (λ o. IfSome o (HasLingering new.looks serial (newest_number old.published))) (sym same) (by (names_frame found serial) is)
   where
-    by : (b : Bool) → new ≡ (if b then with_lingering (lingering_of old process serial turn) old else old) → IfSome (if b then Some (linger_of process turn) else None) (HasLingering new.looks serial (newest old.published))
+    by : (b : Bool) → new ≡ (if b then with_lingering (lingering_of old process serial turn) old else old) → IfSome (if b then Some (linger_of process turn) else None) (HasLingering new.looks serial (newest_number old.published))
     by true e = linger_told old new.looks serial (linger_of process turn) looked.1.cause.0 looked.1.wait_is (ap (λ (w : WriterView). w.looks) e)
+    by false e = tt
+
+-- and nothing else of looks
+pub if_lingers : (old new : WriterView) (found serial process turn : ℕ) → new ≡ lingering_found found (lingering_of old process serial turn) old → (told : Option Linger) → told ≡ (if names_frame found serial then Some (linger_of process turn) else None)
+    → IfSome told (IsLingerKept serial process turn old new)
+if_lingers old new found serial process turn is told same = subst (λ o. IfSome o (IsLingerKept serial process turn old new)) (sym same) (by (names_frame found serial) is)
+  where
+    by : (b : Bool) → new ≡ (if b then with_lingering (lingering_of old process serial turn) old else old) → IfSome (if b then Some (linger_of process turn) else None) (IsLingerKept serial process turn old new)
+    by true e = record { linger_is = refl; looks = ap (λ (w : WriterView). w.looks) e }
     by false e = tt
 
 -- or the writer knows what it knew

@@ -1,5 +1,5 @@
 -- On which wait a look for frames stands, and what it leaves of what the writer knows.
-use Rattle.std.proofs.Common.{◌≡◌, ℕ, ◌+◌, ◌<◌, ◌≤◌, Bool, true, false, IfSome, cond, List, [], ◌∷◌, ◌++◌, length, length-append, slice_get, unwrap_or, Option, Some, None, is_some, All, if◌then◌else◌, ◌⊎◌, inl, inr, refl, sym, ap, subst, ◌∙◌, arith}
+use Rattle.std.proofs.Common.{◌≡◌, ℕ, ◌+◌, ◌<◌, ◌≤◌, Bool, true, false, IfSome, cond, List, [], ◌∷◌, ◌++◌, length, slice_get, unwrap_or, Option, Some, None, is_some, All, if◌then◌else◌, ◌⊎◌, inl, inr, refl, sym, ap, subst, ◌∙◌, arith}
 use Rattle.std.specs.Prelude.{IsTrue, nat_le}
 use Rattle.std.proofs.lemmas.Bool.{and_from, le-leb}
 use Rattle.std.proofs.lemmas.List.{append_assoc}
@@ -14,12 +14,12 @@ use Rattle.area_core.specs.Step.{opening_published}
 use Rattle.marks.specs.declared.kept.LingeringFrame.{LingeringFrame}
 use Rattle.marks.specs.declared.kept.LookKind.TheVariants.{Frame}
 use Rattle.anchors.specs.declared.answers.Scan.{Scan}
-use Rattle.anchors.specs.Scans.{ScanCause}
+use Rattle.anchors.specs.Scans.{LooksMore, ScanCause}
 use Rattle.shared_words.specs.declared.opening.Opening.{Opening}
 use Rattle.shared_words.specs.declared.view.WriterView.{WriterView}
 use Rattle.shared_words.specs.Rule.{HasEnded, is_gone}
 use Rattle.shared_words.specs.Slots.{LookMayBegin, has_ended, is_gone_in, last_ended, wait_for}
-use Rattle.shared_words.specs.Views.{newest, published_at}
+use Rattle.shared_words.specs.Views.{newest_number, published_at}
 use Rattle.shared_words.specs.Lingering.{lingering_found, with_lingering}
 use Rattle.progress_words.specs.Roots.{newest_of}
 use Rattle.progress_words.specs.Needs.{HasLoadedCounter}
@@ -67,22 +67,22 @@ module _ (test : Retirement → Bool) (generation : ℕ) where
   last_of (x ∷ before) first after is passes same = ap (λ (o : Option ℕ). cond (is_some o) o (cond (test x) (Some x.generation) None)) (last_of before first after is passes same)
 
 -- the newest generation is among those that were published
-pub newest_at : (published : List Published) → 0 < length published → slice_get published (newest published) ≡ Some (published_at published (newest published))
-newest_at published some = slice_get-get_or published (newest published) opening_published (omega (arith, some)) ∙ ap Some (sym (unwrap_or-slice_get published (newest published) opening_published))
+pub newest_at : (published : List Published) → 0 < length published → slice_get published (newest_number published) ≡ Some (published_at published (newest_number published))
+newest_at published some = slice_get-get_or published (newest_number published) opening_published (omega (arith, some)) ∙ ap Some (sym (unwrap_or-slice_get published (newest_number published) opening_published))
 
 module _ (w : WriterView) (some : 0 < length w.published) (reached : IsReached w) (serial : ℕ) (gone : IsTrue (is_gone (newest_of w) Frame serial)) where
   abbrev pair : Retirement
-  pair = record { generation = newest w.published; need = reached.need }
+  pair = record { generation = newest_number w.published; need = reached.need }
 
   passes : has_ended w Frame serial pair ≡ true
-  passes = and_from (nat_le reached.need w.counter) (is_gone_in (slice_get w.published (newest w.published)) Frame serial) (le-leb reached.need w.counter reached.reached) (ap (λ (o : Option Published). is_gone_in o Frame serial) (newest_at w.published some) ∙ gone)
+  passes = and_from (nat_le reached.need w.counter) (is_gone_in (slice_get w.published (newest_number w.published)) Frame serial) (le-leb reached.need w.counter reached.reached) (ap (λ (o : Option Published). is_gone_in o Frame serial) (newest_at w.published some) ∙ gone)
 
   -- the look stands on a wait for it
   pub wait_newest : wait_for w Frame serial ≡ newest_wait w serial
   wait_newest =
       let taken = reached.taken in
       ap (λ (o : Option ℕ). record { generation = unwrap_or o 0; serial = serial; kind = Frame })
-      (ap (last_ended (has_ended w Frame serial)) taken.pairs ∙ last_of (has_ended w Frame serial) (newest w.published) taken.before pair taken.after refl passes taken.same)
+      (ap (last_ended (has_ended w Frame serial)) taken.pairs ∙ last_of (has_ended w Frame serial) (newest_number w.published) taken.before pair taken.after refl passes taken.same)
 
   among : Among w.pairs pair
   among = let taken = reached.taken in subst (λ ps. Among ps pair) (sym taken.pairs) (length taken.before + 0, get_behind taken.before (pair ∷ taken.after) 0)
@@ -93,7 +93,7 @@ module _ (w : WriterView) (some : 0 < length w.published) (reached : IsReached w
 
   -- and may begin
   pub look_may : LookMayBegin w Frame serial
-  look_may = record { generation = newest w.published; ended = wait_over }
+  look_may = record { generation = newest_number w.published; ended = wait_over }
 
 -- something is published
 pub some_published : {table : TableId} {opening : Opening} {t : Tables} → AreTablesOf table opening t → 0 < length (written_by t.writer).published
@@ -108,25 +108,21 @@ was_before : (old new : WriterView) → IsSameButFound old new → before_look o
 was_before old new same = ap (before_look old) same
 
 -- what was found, said of the newest generation
-pub found_newest : (old new : WriterView) (serial : ℕ) (scan : Scan) → wait_for old Frame serial ≡ newest_wait old serial → HasEnded old (newest_wait old serial) → IsSameButFound old new → ScanCause (wait_for old Frame serial) old new scan → HasLookedFor serial old new scan
-found_newest old new serial scan is over same cause =
-    let now : newest_wait old serial ≡ newest_wait new serial = ap (λ ps. record { generation = newest ps; serial = serial; kind = Frame }) (sym (ap (λ (w : WriterView). w.published) same)) in
+pub found_newest : (old new : WriterView) (serial : ℕ) (scan : Scan) → wait_for old Frame serial ≡ newest_wait old serial → HasEnded old (newest_wait old serial) → LooksMore old new → ScanCause (wait_for old Frame serial) old new scan → HasLookedFor serial old new scan
+found_newest old new serial scan is over more cause =
+    let same : IsSameButFound old new = more.same in
+    let now : newest_wait old serial ≡ newest_wait new serial = ap (λ ps. record { generation = newest_number ps; serial = serial; kind = Frame }) (sym (ap (λ (w : WriterView). w.published) same)) in
     let begun : old ≡ before_look old new = sym (was_before old new same) in
     record {
       over = subst (λ (w : WriterView). HasEnded w (newest_wait new serial)) begun (subst (HasEnded old) now over);
       cause = subst (λ (w : WriterView). ScanCause (newest_wait new serial) w new scan) begun (subst (λ wait. ScanCause wait old new scan) (is ∙ now) cause);
       wait_is = wait_still old new serial same ∙ is ∙ now;
+      more = subst (λ (w : WriterView). LooksMore w new) begun more;
     }
 
 -- no word of a slot was loaded where the counter was
 pub looks_loaded : (old new : WriterView) → HasLoadedCounter old new → KeepsLooks old new
 looks_loaded old new loaded = record { looks = ap (λ (w : WriterView). w.looks) loaded.view; named = ap (λ (w : WriterView). w.named) loaded.view }
-
--- each load of the counter is kept
-pub counter_loads : (old new : WriterView) → HasLoadedCounter old new → LoadsCounter old new
-counter_loads old new loaded =
-    let more : length new.pairs ≡ length old.pairs + 1 = ap (λ (w : WriterView). length w.pairs) loaded.view ∙ length-append old.pairs _ in
-    omega (arith, more)
 
 -- no more were made where as many are kept
 pub as_many : (old new : WriterView) → new.pairs ≡ old.pairs → length old.pairs ≤ length new.pairs
@@ -155,28 +151,29 @@ found_since old mid new serial scan kept found =
       over = subst (λ (w : WriterView). HasEnded w (newest_wait new serial)) begun found.over;
       cause = subst (λ (w : WriterView). ScanCause (newest_wait new serial) w new scan) begun found.cause;
       wait_is = found.wait_is;
+      more = subst (λ (w : WriterView). LooksMore w new) begun found.more;
     }
 
 pub looks_kept : (old mid new : WriterView) → KeepsLooks old mid → KeepsLooks mid new → KeepsLooks old new
 looks_kept old mid new first second = record { looks = second.looks ∙ first.looks; named = second.named ∙ first.named }
 
 -- the value is the last that was taken still, where no other was
-pub still_last : (old new : WriterView) (need : ℕ) → new.pairs ≡ old.pairs → new.published ≡ old.published → IsLastTaken old (newest old.published) need → IsLastTaken new (newest new.published) need
-still_last old new need pairs published h = subst (λ ps. IsLastTaken new (newest ps) need) (sym published) (record { before = h.before; after = h.after; pairs = pairs ∙ h.pairs; same = h.same })
+pub still_last : (old new : WriterView) (need : ℕ) → new.pairs ≡ old.pairs → new.published ≡ old.published → IsLastTaken old (newest_number old.published) need → IsLastTaken new (newest_number new.published) need
+still_last old new need pairs published h = subst (λ ps. IsLastTaken new (newest_number ps) need) (sym published) (record { before = h.before; after = h.after; pairs = pairs ∙ h.pairs; same = h.same })
 
 -- and where the counter was loaded at the same generation
-pub last_loaded : (old new : WriterView) (need : ℕ) → HasLoadedCounter old new → IsLastTaken old (newest old.published) need → IsLastTaken new (newest new.published) need
+pub last_loaded : (old new : WriterView) (need : ℕ) → HasLoadedCounter old new → IsLastTaken old (newest_number old.published) need → IsLastTaken new (newest_number new.published) need
 last_loaded old new need loaded h =
-    subst (λ (w : WriterView). IsLastTaken w (newest w.published) need) (sym loaded.view)
+    subst (λ (w : WriterView). IsLastTaken w (newest_number w.published) need) (sym loaded.view)
     (record {
       before = h.before;
       after = h.after ++ taken ∷ [];
-      pairs = ap (λ ps. ps ++ taken ∷ []) h.pairs ∙ append_assoc h.before (record { generation = newest old.published; need = need } ∷ h.after) (taken ∷ []);
-      same = All-push (λ (pair : Retirement). pair.generation ≡ newest old.published) h.after taken h.same refl;
+      pairs = ap (λ ps. ps ++ taken ∷ []) h.pairs ∙ append_assoc h.before (record { generation = newest_number old.published; need = need } ∷ h.after) (taken ∷ []);
+      same = All-push (λ (pair : Retirement). pair.generation ≡ newest_number old.published) h.after taken h.same refl;
     })
   where
     taken : Retirement
-    taken = record { generation = newest old.published; need = loaded.counter + 2 }
+    taken = record { generation = newest_number old.published; need = loaded.counter + 2 }
 
 -- so it is with what is waited for, if anything is
 pub if_still : (old new : WriterView) (o : Option ℕ) → new.pairs ≡ old.pairs → new.published ≡ old.published → IfSome o (IsLookTaken old) → IfSome o (IsLookTaken new)

@@ -11,7 +11,7 @@ use Rattle.term_core.specs.declared.generation.Generation.{Generation}
 use Rattle.mod_core.specs.declared.code.Module.{Module}
 use Rattle.mod_core.specs.Module.{IsModule}
 use Rattle.area_core.specs.declared.table.Published.{Published}
-use Rattle.area_core.specs.Generations.{has_serial, is_retired}
+use Rattle.area_core.specs.Generations.{has_serial, is_retired_area}
 use Rattle.marks.specs.declared.kept.LookKind.TheVariants.{Frame}
 use Rattle.shared_words.specs.Rule.{is_gone}
 use Rattle.server_core.specs.Generations.{generation_of, is_old_code, is_serial, serials_below}
@@ -67,6 +67,6 @@ old_gone names s p name serial shown old =
     let since = shown.since in
     let before : old_of shown.stood name ≡ Some serial = sym (ap (λ (x : ServerState). old_of x name) since.same) ∙ old in
     elim shown.shows as (λ _. IsTrue (is_gone p Frame serial)) [
-      | inl state ↦ or_right (is_retired p serial) (has_serial p.state.old serial) (ap (λ (g : Generation). has_serial g.old serial) state ∙ has_old shown.stood shown.sound name serial before names)
+      | inl state ↦ or_right (is_retired_area p serial) (has_serial p.state.old serial) (ap (λ (g : Generation). has_serial g.old serial) state ∙ has_old shown.stood shown.sound name serial before names)
       | inr first ↦ absurd (no_old_first name serial (ap (λ (x : ServerState). old_of x name) (sym first.1) ∙ before))
     ]

@@ -13,7 +13,7 @@ use Rattle.shared_words.specs.declared.opening.Opening.{Opening}
 use Rattle.shared_words.specs.declared.view.WriterView.{WriterView}
 use Rattle.shared_words.specs.Rule.{is_gone}
 use Rattle.shared_words.specs.Slots.{IsClear}
-use Rattle.shared_words.specs.Views.{newest}
+use Rattle.shared_words.specs.Views.{newest_number}
 use Rattle.progress_words.specs.declared.answers.NotYet as late
 use Rattle.progress_words.specs.Needs.{IsBelow}
 use Rattle.progress_words.specs.Roots.{newest_of}
@@ -48,7 +48,7 @@ use Rattle.write_permit.specs.declared.commands.OldCode.{OldCode}
 use Rattle.write_permit.specs.declared.holder.Holder.{Holder}
 use Rattle.write_permit.specs.declared.holder.Holder.TheVariants.{Free, Held, Purging, Tracing}
 use Rattle.write_permit.specs.Book.{HoldsJust, IsBook, PurgeWaits, TraceWaits, shown}
-use Rattle.write_permit.specs.Permit.{PermitState, Step, done_of, doomed_by, ended_with, holder_of, joined, lingering, needs_permission, next_of, purged_code}
+use Rattle.write_permit.specs.Permit.{PermitState, PermitStep, done_of, doomed_by, command_ended, holder_of, joined, lingering, needs_permission, next_of, purged_code}
 use Rattle.write_permit.proofs.EndBooks.{open_ends}
 use Rattle.write_permit.proofs.Ends.{code_of_module}
 use Rattle.word_permit.specs.declared.answers.CommandStep.{CommandStep}
@@ -60,7 +60,7 @@ use Rattle.word_permit.specs.declared.purging.Purged.TheVariants.{Softly, Wholly
 use Rattle.word_permit.specs.Books.{HasGivenUp, HasTakenBack, IsWordBook}
 use Rattle.word_permit.specs.Looks.{HasLooked, HasLookedFor, IsLookTaken, IsReached, before_look}
 use Rattle.word_permit.specs.Notes.{AreOfSpawned}
-use Rattle.word_permit.specs.Purged.{AwaitsFound, EndAnswers, EndsNext, EndsPurge, HasBegun, HasDoomedCode, HasGrown, IsLookLate, IsOldCodeOf, IsToldBy, IsToldByDrop, JustLooks, LeavesServer, LingersIn, LookAnswers, PurgeAnswers, Purges, StillWaits, is_purge, purged_by, purging_command}
+use Rattle.word_permit.specs.Purged.{AwaitsFound, EndAnswers, EndsByCode, EndsNext, EndsWith, HasBegun, HasDoomedCode, HasGrown, IsCodeDropped, IsEndLooked, IsEndedBy, IsLingerKept, IsLookLate, IsOldCodeOf, IsToldBy, IsToldByDrop, JustLooks, LeavesServer, LingersAs, LingersIn, LookAnswers, NamesCode, PurgeAnswers, Purges, StillWaits, is_purge, purged_by, purging_command}
 use Rattle.word_permit.specs.Waiting.{GoesOverWords, WordsStand}
 use Rattle.word_permit.proofs.Answered.{answered_joined}
 use Rattle.word_permit.proofs.Calls.{counts_none}
@@ -229,23 +229,23 @@ whole_leaves texts s name none o h =
 
 -- and tell nothing of processes, where there is no old code
 pub soft_tells : (s : ServerState) (w : WriterView) (kept : WriterKept) (name : AtomId) → old_of s name.0 ≡ None → IsToldBy s w kept (cmds.SoftPurge name None)
-soft_tells s w kept name none = subst (λ (o : Option ℕ). IfSome o (λ serial. HasDrop kept Frame serial (newest w.published))) (sym none) tt
+soft_tells s w kept name none = subst (λ (o : Option ℕ). IfSome o (λ serial. HasDrop kept Frame serial (newest_number w.published))) (sym none) tt
 
 pub whole_tells : (s : ServerState) (w : WriterView) (kept : WriterKept) (name : AtomId) → old_of s name.0 ≡ None → IsToldBy s w kept (cmds.Purge name false)
-whole_tells s w kept name none = subst (λ (o : Option ℕ). IfSome o (λ serial. HasPurge kept serial (newest w.published) false)) (sym none) tt
+whole_tells s w kept name none = subst (λ (o : Option ℕ). IfSome o (λ serial. HasPurge kept serial (newest_number w.published) false)) (sym none) tt
 
 -- a process that lingers is told of
-pub linger_tells : (s : ServerState) (w : WriterView) (kept : WriterKept) (name : AtomId) (serial : ℕ) (l : Linger) → old_of s name.0 ≡ Some serial → HasLingering kept serial (newest w.published) l → IsToldBy s w kept (cmds.SoftPurge name (Some l))
-linger_tells s w kept name serial l old has = subst (λ (o : Option ℕ). IfSome o (λ n. HasLingering kept n (newest w.published) l)) (sym old) has
+pub linger_tells : (s : ServerState) (w : WriterView) (kept : WriterKept) (name : AtomId) (serial : ℕ) (l : Linger) → old_of s name.0 ≡ Some serial → HasLingering kept serial (newest_number w.published) l → IsToldBy s w kept (cmds.SoftPurge name (Some l))
+linger_tells s w kept name serial l old has = subst (λ (o : Option ℕ). IfSome o (λ n. HasLingering kept n (newest_number w.published) l)) (sym old) has
 
 -- a drop is told of by a soft purge
 pub soft_told : (s : ServerState) (w : WriterView) (name : AtomId) (serial : ℕ) → old_of s name.0 ≡ Some serial → IsToldByDrop s w serial (cmds.SoftPurge name None)
-soft_told s w name serial old kept is agree = subst (λ (o : Option ℕ). IfSome o (λ n. HasDrop kept Frame n (newest w.published))) (sym old) (drop_told w kept serial is)
+soft_told s w name serial old kept is agree = subst (λ (o : Option ℕ). IfSome o (λ n. HasDrop kept Frame n (newest_number w.published))) (sym old) (drop_told w kept serial is)
 
 -- and by a purge, with whom the code has killed
 pub whole_told : (s : ServerState) (w : WriterView) (name : AtomId) (serial : ℕ) (killed : Bool) → old_of s name.0 ≡ Some serial → HasLooked serial w (scans.Clear killed) → IsToldByDrop s w serial (cmds.Purge name killed)
 whole_told s w name serial killed old looked kept is agree =
-    subst (λ (o : Option ℕ). IfSome o (λ n. HasPurge kept n (newest w.published) killed)) (sym old) (purge_told (before_look looked.0 w) w serial killed looked.1.cause.0 agree kept is)
+    subst (λ (o : Option ℕ). IfSome o (λ n. HasPurge kept n (newest_number w.published) killed)) (sym old) (purge_told (before_look looked.0 w) w serial killed looked.1.cause.0 agree kept is)
 
 -- the look was clear
 pub found_clear : (w : WriterView) (serial : ℕ) (killed : Bool) → HasLooked serial w (scans.Clear killed) → IsClear w Frame serial
@@ -261,40 +261,31 @@ module _ (b m : WordBook) (looks : JustLooks b m) where
   shown_same = ap shown looks.plain
 
   -- what ended behind it
-  ends_done : (who : ℕ) (c : WordBook) (applied : Applied) → EndsPurge who m c applied → EndsPurge who b c applied
-  ends_done who c applied h = record {
-    cmd = h.cmd;
-    ends = subst (λ p. EndsNext p who h.cmd) shown_same h.ends;
-    step = subst (λ p. ended_with p who h.cmd ≡ Some (record { state = shown c.plain; answer = steps.Done applied })) shown_same h.step;
-    told = subst (λ s. IsToldBy s (written_by b.tables.writer) (written_by c.tables.writer).looks h.cmd) server_same
-        (subst (λ n. IsAnswerKept m.plain.server n (written_by c.tables.writer).looks h.cmd) (ap newest looks.published) h.told);
+  pub ends_done : (who : ℕ) (cmd : Cmd) (c : WordBook) (applied : Applied) → EndsWith who cmd m c applied → EndsWith who cmd b c applied
+  ends_done who cmd c applied h = record {
+    ends = subst (λ p. EndsNext p who cmd) shown_same h.ends;
+    step = subst (λ p. command_ended p who cmd ≡ Some (record { state = shown c.plain; answer = steps.Done applied })) shown_same h.step;
+    reply = h.reply;
+    told = subst (λ s. IsToldBy s (written_by b.tables.writer) (written_by c.tables.writer).looks cmd) server_same
+        (subst (λ n. IsAnswerKept m.plain.server n (written_by c.tables.writer).looks cmd) (ap newest_number looks.published) h.told);
     none = h.none;
   }
-
-  ends_behind : (who : ℕ) (c : WordBook) (step : CommandStep) → EndAnswers who m c step → PurgeAnswers who b c step
-  ends_behind who c (Done applied) h = ends_done who c applied h
-  ends_behind who c (NotYet answer) h = absurd h
-  ends_behind who c AwaitRelease h = absurd h
-  ends_behind who c (Lingers process turn place word) h = absurd h
-
-  pub ends_ok : (who : ℕ) (c : WordBook) (r : Result CommandStep NoMemory) → IfOk r (EndAnswers who m c) → IfOk r (PurgeAnswers who b c)
-  ends_ok who c (Ok step) h = ends_behind who c step h
-  ends_ok who c (Err fault) h = tt
 
   pub taken_behind : (c : WordBook) (r : Result CommandStep NoMemory) → OnErr r (HasTakenBack m c) → OnErr r (HasTakenBack b c)
   taken_behind c (Ok step) h = tt
   taken_behind c (Err fault) h = record { same = h.same ∙ shown_same; published = h.published ∙ looks.published; none = h.none }
 
-  -- behind a look, whatever that found
-  looks_behind : (who : ℕ) (scan : Scan) (c : WordBook) (step : CommandStep) → EndAnswers who m c step → LookAnswers who scan b c step
-  looks_behind who scan c (Done applied) h = ends_done who c applied h
-  looks_behind who scan c (NotYet answer) h = absurd h
-  looks_behind who scan c AwaitRelease h = absurd h
-  looks_behind who scan c (Lingers process turn place word) h = absurd h
+  -- behind a look, by what that found
+  module _ (who serial : ℕ) (scan : Scan) (cmd : Cmd) (code : NamesCode b.plain.server serial cmd) (c : WordBook) where
+    looks_behind : (step : CommandStep) → IsEndedBy serial scan (written_by b.tables.writer) (written_by c.tables.writer) cmd → EndAnswers who cmd m c step → LookAnswers who serial scan b c step
+    looks_behind (Done applied) ends h = record { cmd = cmd; ended = ends_done who cmd c applied h; code = code; ends = ends }
+    looks_behind (NotYet answer) ends h = absurd h
+    looks_behind AwaitRelease ends h = absurd h
+    looks_behind (Lingers process turn place word) ends h = absurd h
 
-  pub looks_ok : (who : ℕ) (scan : Scan) (c : WordBook) (r : Result CommandStep NoMemory) → IfOk r (EndAnswers who m c) → IfOk r (LookAnswers who scan b c)
-  looks_ok who scan c (Ok step) h = looks_behind who scan c step h
-  looks_ok who scan c (Err fault) h = tt
+    pub looks_ok : (r : Result CommandStep NoMemory) → IfOk r (λ step. IsEndedBy serial scan (written_by b.tables.writer) (written_by c.tables.writer) cmd) → IfOk r (EndAnswers who cmd m c) → IfOk r (LookAnswers who serial scan b c)
+    looks_ok (Ok step) ends h = looks_behind step ends h
+    looks_ok (Err fault) ends h = tt
 
   -- the purge waits still
   pub late_behind : (who : ℕ) (answer : late.NotYet) → b.waiting ≡ None → HasBegun who b → IsLookLate m answer → IfSome b.look (λ value. value ≡ answer.need) → LoadsCounter (written_by b.tables.writer) (written_by m.tables.writer) → PurgeAnswers who b m (NotYet answer)
@@ -358,7 +349,7 @@ pub value_taken : (names : List Mfa) (table : TableId) (opening : Opening) (c : 
 value_taken names table opening c need known look = subst (λ (o : Option ℕ). IfSome o (IsLookTaken (written_by c.tables.writer))) look known.looked
 
 -- the purge waits for whom the look of this call found
-module _ (who : ℕ) (b m : WordBook) (command : ScriptCmd) (serial : ℕ) (scan : Scan) (begun : HasBegun who b) (next : next_of (shown b.plain) who ≡ Some command) (code : IsOldCodeOf b.plain.server command serial) (looks : JustLooks b m)
+module _ (who : ℕ) (b m : WordBook) (command : ScriptCmd) (serial : ℕ) (scan : Scan) (begun : HasBegun who b) (next : next_of (shown b.plain) who ≡ Some command) (code : IsOldCodeOf b.plain.server command serial) (holds : LingersAs who b.plain.holder command) (looks : JustLooks b m)
     (found : HasLookedFor serial (written_by b.tables.writer) (written_by m.tables.writer) scan) where
   lingers_behind : (c : WordBook) (process turn place word : ℕ) → AwaitsFound scan m c process turn place word → LingersIn who b c process turn place word
   lingers_behind c process turn place word h = record {
@@ -368,31 +359,80 @@ module _ (who : ℕ) (b m : WordBook) (command : ScriptCmd) (serial : ℕ) (scan
     none = h.none;
     serial = serial;
     code = some_at (next_of (shown b.plain) who) (λ x. IsOldCodeOf b.plain.server x serial) command next code;
+    holds = some_at (next_of (shown b.plain) who) (LingersAs who b.plain.holder) command next holds;
     found = subst (λ (w : WriterView). HasLookedFor serial (written_by b.tables.writer) w (scans.Named process turn place word)) (sym h.view)
         (subst (HasLookedFor serial (written_by b.tables.writer) (written_by m.tables.writer)) h.found found);
   }
 
-  answers_behind : (c : WordBook) (step : CommandStep) → LookAnswers who scan m c step → PurgeAnswers who b c step
-  answers_behind c (Done applied) h = ends_done b m looks who c applied h
+  -- or is done by it
+  looked_behind : (c : WordBook) (cmd : Cmd) → NamesCode m.plain.server serial cmd → IsEndedBy serial scan (written_by m.tables.writer) (written_by c.tables.writer) cmd
+      → IsEndLooked b.plain.server (written_by b.tables.writer) (written_by c.tables.writer) cmd
+  looked_behind c (cmds.SoftPurge name linger) named ends =
+      subst (λ (o : Option ℕ). EndsByCode o (cmds.SoftPurge name linger) (written_by b.tables.writer) (written_by c.tables.writer)) (sym (ap (λ (x : Book). old_of x.server name.0) (sym looks.plain) ∙ named))
+      (record { known = written_by m.tables.writer; published = looks.published; scan = scan; found = found; ends = ends })
+  looked_behind c (cmds.Purge name killed) named ends =
+      subst (λ (o : Option ℕ). EndsByCode o (cmds.Purge name killed) (written_by b.tables.writer) (written_by c.tables.writer)) (sym (ap (λ (x : Book). old_of x.server name.0) (sym looks.plain) ∙ named))
+      (record { known = written_by m.tables.writer; published = looks.published; scan = scan; found = found; ends = ends })
+  looked_behind c cmd named ends = absurd named
+
+  answers_behind : (c : WordBook) (step : CommandStep) → LookAnswers who serial scan m c step → PurgeAnswers who b c step
+  answers_behind c (Done applied) h = record { cmd = h.cmd; ended = ends_done b m looks who h.cmd c applied h.ended; looked = looked_behind c h.cmd h.code h.ends }
   answers_behind c (NotYet answer) h = absurd h
   answers_behind c AwaitRelease h = absurd h
   answers_behind c (Lingers process turn place word) h = lingers_behind c process turn place word h
 
-  pub found_ok : (c : WordBook) (r : Result CommandStep NoMemory) → IfOk r (LookAnswers who scan m c) → IfOk r (PurgeAnswers who b c)
+  pub found_ok : (c : WordBook) (r : Result CommandStep NoMemory) → IfOk r (LookAnswers who serial scan m c) → IfOk r (PurgeAnswers who b c)
   found_ok c (Ok step) h = answers_behind c step h
   found_ok c (Err fault) h = tt
+
+-- where there is no old code, the command is done with no look
+module _ (who : ℕ) (b c : WordBook) (cmd : Cmd) (looked : IsEndLooked b.plain.server (written_by b.tables.writer) (written_by c.tables.writer) cmd) where
+  ends_none : (step : CommandStep) → EndAnswers who cmd b c step → PurgeAnswers who b c step
+  ends_none (Done applied) h = record { cmd = cmd; ended = h; looked = looked }
+  ends_none (NotYet answer) h = absurd h
+  ends_none AwaitRelease h = absurd h
+  ends_none (Lingers process turn place word) h = absurd h
+
+  pub ends_ok : (r : Result CommandStep NoMemory) → IfOk r (EndAnswers who cmd b c) → IfOk r (PurgeAnswers who b c)
+  ends_ok (Ok step) h = ends_none step h
+  ends_ok (Err fault) h = tt
+
+pub soft_unlooked : (s : ServerState) (b c : WordBook) (name : AtomId) → old_of s name.0 ≡ None → c.tables ≡ b.tables → IsEndLooked s (written_by b.tables.writer) (written_by c.tables.writer) (cmds.SoftPurge name None)
+soft_unlooked s b c name none same =
+    subst (λ (o : Option ℕ). EndsByCode o (cmds.SoftPurge name None) (written_by b.tables.writer) (written_by c.tables.writer)) (sym none) (ap (λ (t : Tables). written_by t.writer) same)
+
+pub whole_unlooked : (s : ServerState) (b c : WordBook) (name : AtomId) → old_of s name.0 ≡ None → c.tables ≡ b.tables → IsEndLooked s (written_by b.tables.writer) (written_by c.tables.writer) (cmds.Purge name false)
+whole_unlooked s b c name none same =
+    subst (λ (o : Option ℕ). EndsByCode o (cmds.Purge name false) (written_by b.tables.writer) (written_by c.tables.writer)) (sym none) (ap (λ (t : Tables). written_by t.writer) same)
+
+-- what a look found ends the command
+module _ (serial : ℕ) (scan : Scan) (name : AtomId) where
+  pub clear_soft : (known new : WriterView) (killed : Bool) (r : Result CommandStep NoMemory) → scan ≡ scans.Clear killed → IfOk r (λ step. IsCodeDropped serial known new) → IfOk r (λ step. IsEndedBy serial scan known new (cmds.SoftPurge name None))
+  clear_soft known new killed (Ok step) is h = subst (λ x. IsEndedBy serial x known new (cmds.SoftPurge name None)) (sym is) h
+  clear_soft known new killed (Err fault) is h = tt
+
+  pub clear_whole : (known new : WriterView) (killed : Bool) (r : Result CommandStep NoMemory) → scan ≡ scans.Clear killed → IfOk r (λ step. IsCodeDropped serial known new) → IfOk r (λ step. IsEndedBy serial scan known new (cmds.Purge name killed))
+  clear_whole known new killed (Ok step) is h = subst (λ x. IsEndedBy serial x known new (cmds.Purge name killed)) (sym is) (refl, h)
+  clear_whole known new killed (Err fault) is h = tt
+
+  pub named_soft : (known : WriterView) (m c : WordBook) (process turn place word : ℕ) (l : Linger) (r : Result CommandStep NoMemory) → scan ≡ scans.Named process turn place word → IsLingerKept serial process turn known (written_by m.tables.writer) l → c.tables ≡ m.tables
+      → IfOk r (λ step. IsEndedBy serial scan known (written_by c.tables.writer) (cmds.SoftPurge name (Some l)))
+  named_soft known m c process turn place word l (Ok step) is kept same =
+      subst (λ x. IsEndedBy serial x known (written_by c.tables.writer) (cmds.SoftPurge name (Some l))) (sym is)
+      (subst (λ (t : Tables). IsLingerKept serial process turn known (written_by t.writer) l) (sym same) kept)
+  named_soft known m c process turn place word l (Err fault) is kept same = tt
 
 -- what was found, by the scan's case
 pub found_as : (w : WriterView) (serial : ℕ) (scan is : Scan) → scan ≡ is → HasLooked serial w scan → HasLooked serial w is
 found_as w serial scan is same looked = subst (HasLooked serial w) same looked
 
 -- the answer that was kept is one of the newest generation still
-pub kept_still : (b m : WordBook) (serial : ℕ) (l : Linger) → JustLooks b m → HasLingering (written_by m.tables.writer).looks serial (newest (written_by b.tables.writer).published) l → HasLingering (written_by m.tables.writer).looks serial (newest (written_by m.tables.writer).published) l
-kept_still b m serial l looks h = subst (λ n. HasLingering (written_by m.tables.writer).looks serial n l) (sym (ap newest looks.published)) h
+pub kept_still : (b m : WordBook) (serial : ℕ) (l : Linger) → JustLooks b m → HasLingering (written_by m.tables.writer).looks serial (newest_number (written_by b.tables.writer).published) l → HasLingering (written_by m.tables.writer).looks serial (newest_number (written_by m.tables.writer).published) l
+kept_still b m serial l looks h = subst (λ n. HasLingering (written_by m.tables.writer).looks serial n l) (sym (ap newest_number looks.published)) h
 
 -- ---- an end that leaves the server
 
-pub quiet_end : (names : List Mfa) (table : TableId) (opening : Opening) (b : WordBook) (plain : Book) (who : ℕ) (cmd : Cmd) (answer : OpStep) → IsWordBook names table opening b → b.waiting ≡ None → IsBook plain → EndsNext (shown b.plain) who cmd → ended_with (shown b.plain) who cmd ≡ Some (record { state = shown plain; answer = answer })
+pub quiet_end : (names : List Mfa) (table : TableId) (opening : Opening) (b : WordBook) (plain : Book) (who : ℕ) (cmd : Cmd) (answer : OpStep) → IsWordBook names table opening b → b.waiting ≡ None → IsBook plain → EndsNext (shown b.plain) who cmd → command_ended (shown b.plain) who cmd ≡ Some (record { state = shown plain; answer = answer })
     → LeavesServer b.plain.script.modules b.plain.server cmd → IsToldBy b.plain.server (written_by b.tables.writer) (written_by b.tables.writer).looks cmd → IsWordBook names table opening (record b { plain = plain; look = None })
 quiet_end names table opening b plain who cmd answer known none book ends step leaves told =
     let e = was_ended (shown b.plain) (shown plain) who cmd answer step in
@@ -450,7 +490,7 @@ record Doomed (p : PermitState) (who : ℕ) (q : PermitState) : Type 0 where
 was_doomed : (p q : PermitState) (who : ℕ) (name : AtomId) → doomed_by p who name ≡ Some q → Doomed p who q
 was_doomed p q who name h = by (apply_of p.script.modules p.server (cmds.Doom name)) h
   where
-    by : (o : Option Outcome) → option_map {U = PermitState} (λ (s : Step). record (s.state) { holder = Purging who name }) (option_map {U = Step} (λ x. record { state = joined p (Loader who) (cmds.Doom name) x; answer = x.answer }) o) ≡ Some q → Doomed p who q
+    by : (o : Option Outcome) → option_map {U = PermitState} (λ (s : PermitStep). record (s.state) { holder = Purging who name }) (option_map {U = PermitStep} (λ x. record { state = joined p (Loader who) (cmds.Doom name) x; answer = x.answer }) o) ≡ Some q → Doomed p who q
     by None g = absurd (none-some q g)
     by (Some x) g =
         let is = same_Some (record (joined p (Loader who) (cmds.Doom name) x) { holder = Purging who name }) q g in
@@ -472,7 +512,7 @@ grown_doomed b c who name h =
     }
 
 pub grown_by : (who : ℕ) (b c : WordBook) (step : CommandStep) → PurgeAnswers who b c step → HasGrown b.plain c.plain
-grown_by who b c (Done applied) h = ended_grown b.plain c.plain who h.cmd (steps.Done applied) h.step
+grown_by who b c (Done applied) h = ended_grown b.plain c.plain who h.cmd (steps.Done applied) h.ended.step
 grown_by who b c (NotYet answer) h = by h.since
   where
     by : (HasBegun who b × StillWaits b c answer.need) ⊎ HasDoomedCode who b c → HasGrown b.plain c.plain

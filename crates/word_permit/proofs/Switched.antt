@@ -5,7 +5,7 @@ use Rattle.term_core.specs.declared.atom.Mfa.{Mfa}
 use Rattle.marks.specs.declared.kept.WriterKept.{WriterKept}
 use Rattle.shared_words.specs.declared.opening.Opening.{Opening}
 use Rattle.shared_words.specs.declared.view.WriterView.{WriterView}
-use Rattle.shared_words.specs.Views.{newest}
+use Rattle.shared_words.specs.Views.{newest_number}
 use Rattle.progress_words.specs.declared.answers.NotYet as late
 use Rattle.progress_words.specs.Tokens.{written_by}
 use Rattle.area_core.specs.Blocks.{Among}
@@ -15,7 +15,7 @@ use Rattle.server_core.specs.declared.change.Change.TheVariants.{SetTrace, Clear
 use Rattle.server_core.specs.declared.command.Applied.{Applied}
 use Rattle.server_core.specs.declared.command.Reply.TheVariants as replies
 use Rattle.server_core.specs.CommandTable.{Outcome}
-use Rattle.server_core.specs.Decided.{made}
+use Rattle.server_core.specs.Decided.{change_made}
 use Rattle.server_core.specs.ServerState.{IsSound, ServerState}
 use Rattle.script_core.specs.declared.script.Script.{Script}
 use Rattle.run_log.specs.declared.logs.Entry.{Entry}
@@ -25,7 +25,7 @@ use Rattle.staging.specs.declared.stage.Stage.{Stage}
 use Rattle.staging.specs.declared.stage.Step.{Step}
 use Rattle.staging.specs.declared.stage.Step.TheVariants as steps
 use Rattle.staging.specs.declared.tables.Tables.{Tables}
-use Rattle.staging.specs.Stages.{AreAtRest, AreSettling, StageStands}
+use Rattle.staging.specs.Stages.{AreAtRest, AreSettling, StageStands, stage_number}
 use Rattle.staging.specs.Traced.{HasSwitched, IsPatchLate, IsTraceChange, NeedGoesOn, Settles, TraceAnswers}
 use Rattle.staging.specs.Whose.{AreTablesOf, KeepsKnown}
 use Rattle.staging.proofs.PatchNeeds.{late_from, need_on}
@@ -75,7 +75,7 @@ late_patch (ClearTrace generation at) old new answer h late_is = late_is
 late_patch change old new answer h late_is = absurd h
 
 -- the change is made, put together
-pub trace_made : (who generation : ℕ) (change : Change) (old : Book) (server : ServerState) (modules : Modules) (applied : Applied) (new : Book) → made old.server change ≡ record { state = server; answer = applied } → IsSound server
+pub trace_made : (who generation : ℕ) (change : Change) (old : Book) (server : ServerState) (modules : Modules) (applied : Applied) (new : Book) → change_made old.server change ≡ record { state = server; answer = applied } → IsSound server
     → modules.instances ≡ newest_followed old.modules.instances server (newest_of old.journal) → shown new ≡ record (shown old) { server = server; holder = Tracing who generation } → new.modules ≡ modules → IsTraceMade who generation change old new
 trace_made who generation change old server modules applied new made_is sound follows state table =
     let same : server ≡ new.server = ap (λ (x : PermitState). x.server) (sym state) in
@@ -94,7 +94,7 @@ keeps_told s old new who p d server known keeps = record {
     dropped = λ x had. subst (λ (k : WriterKept). Among k.dropped x) (sym keeps.looks) had;
     lingering = λ x had. subst (λ (k : WriterKept). Among k.lingering x) (sym keeps.looks) had;
   };
-  told = none_told s (newest old.published) new.looks d.cmd (subst TellsNone (sym known.cmd_is) (goes_quiet p.server known.command known.goes));
+  told = none_told s (newest_number old.published) new.looks d.cmd (subst TellsNone (sym known.cmd_is) (goes_quiet p.server known.command known.goes));
 }
 
 module _ (names : List Mfa) (table : TableId) (opening : Opening) (b : WordBook) (had : HasItsTables names table opening b) (who : ℕ) (d : Decision) (held : b.plain.holder ≡ Held who) (known : IsDecided (shown b.plain) who d) (none : b.waiting ≡ None) (look : b.look ≡ None)
@@ -125,7 +125,7 @@ module _ (names : List Mfa) (table : TableId) (opening : Opening) (b : WordBook)
       is_made : IsMadeBy (shown b.plain) d
       is_made = record { fits = known.fits; given = known.given; answer = known.answer }
 
-      module _ (generation : ℕ) (switched : HasSwitched names (made b.plain.server d.change).state b.tables t generation) (need : NeedGoesOn b.tables t) (c : WordBook) (trace : IsTraceMade who generation d.change stepped.plain c.plain) (left : c ≡ record stepped { plain = c.plain }) where
+      module _ (generation : ℕ) (switched : HasSwitched names (change_made b.plain.server d.change).state b.tables t generation) (need : NeedGoesOn b.tables t) (c : WordBook) (trace : IsTraceMade who generation d.change stepped.plain c.plain) (left : c ≡ record stepped { plain = c.plain }) where
         abbrev mid : Book
         mid = between b.plain had.book who d is_made modules same room journal more c.plain.server trace.applied trace.made_is c.plain.modules trace.table
 
@@ -142,7 +142,7 @@ module _ (names : List Mfa) (table : TableId) (opening : Opening) (b : WordBook)
         tables_are : c.tables ≡ t
         tables_are = ap (λ (x : WordBook). x.tables) left
 
-        server_is : c.plain.server ≡ (made b.plain.server d.change).state
+        server_is : c.plain.server ≡ (change_made b.plain.server d.change).state
         server_is = ap (λ (o : Outcome). o.state) (sym trace.made_is)
 
         holder_is : c.plain.holder ≡ Tracing who generation
@@ -157,7 +157,7 @@ module _ (names : List Mfa) (table : TableId) (opening : Opening) (b : WordBook)
             trace.state refl trace.sound
             (agrees_between b.plain had.book who d is_made modules same room journal more c.plain.server trace.applied trace.made_is c.plain.modules trace.table)
 
-        switching : IsSwitching names (made b.plain.server d.change).state t
+        switching : IsSwitching names (change_made b.plain.server d.change).state t
         switching =
             let told_true = tells_true b.plain.server d.change traces in
             record { settling = switched.settling; room = omega (arith, numbers, told_true.generation) }
@@ -180,7 +180,7 @@ module _ (names : List Mfa) (table : TableId) (opening : Opening) (b : WordBook)
                   published_book names table opening b had who d is_made (ap is_some (ap (λ (o : Outcome). o.answer.published) trace.made_is ∙ ap (λ (a : Applied). a.published) answer_is)) t of_table exports keeps.notes keeps.waits
                   (keeps_told b.plain.server (written_by b.tables.writer) (written_by t.writer) who (shown b.plain) d refl known keeps) switched.next switched.shows switched.published c m.book
                   (ap (λ (x : PermitState). x.script) trace.state) (ap (λ (x : PermitState). x.journal) trace.state ∙ more) server_is tables_are (ap (λ (x : WordBook). x.need) left) no waiting
-                  (subst (λ h. RestsBy names h (made b.plain.server d.change).state t) (sym holder_is) switching);
+                  (subst (λ h. RestsBy names h (change_made b.plain.server d.change).state t) (sym holder_is) switching);
             }
 
       -- whatever the words answered
@@ -211,6 +211,9 @@ decided_still d b c answer h = subst (λ (o : Option Waiting). IfSome o (λ w. w
 
 pub none_decided : (c : WordBook) (d : Decision) → c.waiting ≡ None → IfSome c.waiting (λ w. w.decision ≡ d)
 none_decided c d none = subst (λ (o : Option Waiting). IfSome o (λ w. w.decision ≡ d)) (sym none) tt
+
+pub none_behind : (c : WordBook) (stage : Stage) → c.waiting ≡ None → IfSome c.waiting (λ w. stage_number stage ≤ stage_number w.stage)
+none_behind c stage none = subst (λ (o : Option Waiting). IfSome o (λ w. stage_number stage ≤ stage_number w.stage)) (sym none) tt
 
 -- one that goes on behind its publication
 pub settles_answer : (who : ℕ) (b c : WordBook) (step : CommandStep) → c.waiting ≡ None → SettleAnswers who b c step → OpAnswers who b c step

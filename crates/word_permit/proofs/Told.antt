@@ -12,24 +12,24 @@ use Rattle.marks.specs.declared.kept.LookKind.TheVariants.{Frame}
 use Rattle.marks.specs.declared.kept.LookedAnchor.{LookedAnchor}
 use Rattle.marks.specs.declared.kept.WriterKept.{WriterKept}
 use Rattle.marks.specs.Names.{tells_kill}
-use Rattle.marks.specs.Steps.{with_dropped, with_lingering}
+use Rattle.marks.specs.Steps.{with_drop_kept, with_lingering}
 use Rattle.anchors.specs.Scans.{AreClear, IsLoaded, tells_any}
 use Rattle.script_core.proofs.JoinedPlaces.{get_front}
 use Rattle.shared_words.specs.declared.view.WriterView.{WriterView}
 use Rattle.shared_words.specs.Drops.{AgreesWithLooks, drop_of}
 use Rattle.shared_words.specs.Lingering.{lingering_of}
 use Rattle.shared_words.specs.Slots.{wait_for}
-use Rattle.shared_words.specs.Views.{newest}
+use Rattle.shared_words.specs.Views.{newest_number}
 use Rattle.run_law.specs.Answers.{HasDrop, HasKilled, HasLingering, HasPurge}
 use Rattle.word_permit.specs.Looks.{newest_wait}
 
 -- ---- an instance that is dropped
 
-module _ (before : WriterView) (after : WriterKept) (serial : ℕ) (kept : after ≡ with_dropped before.looks (drop_of before Frame serial)) where
+module _ (before : WriterView) (after : WriterKept) (serial : ℕ) (kept : after ≡ with_drop_kept before.looks (drop_of before Frame serial)) where
   abbrev drop : DroppedArea
   drop = drop_of before Frame serial
 
-  pub drop_told : HasDrop after Frame serial (newest before.published)
+  pub drop_told : HasDrop after Frame serial (newest_number before.published)
   drop_told = record {
     drop = drop;
     among = subst (λ (k : WriterKept). Among k.dropped drop) (sym kept) (0, refl);
@@ -85,14 +85,14 @@ module _ (begun before : WriterView) (serial : ℕ) (killed : Bool) (clear : Are
       let told : tells_kill word serial ≡ true = k.2 (look_at one.0 k.0 word) (is_kept one.0 k.0 word words row at) refl refl refl in
       clear.told ∙ any_from (tells_any serial) clear.rows one.0 words row (any_from (λ x. tells_kill x serial) words k.0 word at told)
 
-  pub purge_told : (after : WriterKept) → after ≡ with_dropped before.looks (drop_of before Frame serial) → HasPurge after serial (newest before.published) killed
+  pub purge_told : (after : WriterKept) → after ≡ with_drop_kept before.looks (drop_of before Frame serial) → HasPurge after serial (newest_number before.published) killed
   unfolding drop_told
   purge_told after kept = record { dropped = drop_told before after serial kept; told = (killed_one, one_killed) }
 
 -- ---- a process that lingers
 
 pub linger_told : (before : WriterView) (after : WriterKept) (serial : ℕ) (linger : Linger) → linger.process < PROCESSES → wait_for before Frame serial ≡ newest_wait before serial
-    → after ≡ with_lingering before.looks (lingering_of before linger.process serial linger.turn) → HasLingering after serial (newest before.published) linger
+    → after ≡ with_lingering before.looks (lingering_of before linger.process serial linger.turn) → HasLingering after serial (newest_number before.published) linger
 linger_told before after serial linger below wait kept = record {
   below = below;
   answer = lingering_of before linger.process serial linger.turn;

@@ -14,7 +14,7 @@ use Rattle.server_core.specs.declared.command.Cmd.{Cmd}
 use Rattle.server_core.specs.declared.command.Cmd.TheVariants as cmds
 use Rattle.server_core.specs.declared.command.Reply.TheVariants as replies
 use Rattle.server_core.specs.CommandTable.{Outcome, published, with_trace}
-use Rattle.server_core.specs.Decided.{made}
+use Rattle.server_core.specs.Decided.{change_made}
 use Rattle.server_core.specs.ServerState.{Entry, Persistent, ServerState, code_of, current_of, entry_of, function_named, is_named, is_same_entry, is_traced, persistent_of, traceable_of}
 use Rattle.server_core.proofs.Changes.{Came, as_before, came, came_in, was_deleted, was_doomed, was_erased, was_purged, was_put, was_released, was_soft_purged, was_traced}
 use Rattle.server_core.proofs.KeyChanges.{persistent_erased}
@@ -25,7 +25,7 @@ use Rattle.change_laws.specs.Breakpoints.{TracesInCode}
 use Rattle.change_laws.specs.Uses.{IsCurrentCode}
 use Rattle.change_laws.proofs.KeptTraced.{traced_since}
 use Rattle.staging.specs.Traced.{IsTraceChange}
-use Rattle.write_permit.specs.Permit.{PermitState, next_of, opening}
+use Rattle.write_permit.specs.Permit.{PermitState, next_of, command_opening}
 use Rattle.word_permit.specs.declared.book.Decision.{Decision}
 use Rattle.word_permit.specs.Books.{TellsNone}
 use Rattle.word_permit.specs.Waiting.{GoesOverWords, IsDecided}
@@ -178,7 +178,7 @@ pub record IsTraceDecided (p : PermitState) (who : ℕ) (d : Decision) : Type 0 
   pub next : next_of p who ≡ Some (Trace target on)
   pub code : TracesInCode p.server d.change
 
-opens_trace : (s : ServerState) (command : ScriptCmd) (target : Mfa) (on : Bool) → GoesOverWords command → opening s [] command ≡ cmds.Trace target on → command ≡ Trace target on
+opens_trace : (s : ServerState) (command : ScriptCmd) (target : Mfa) (on : Bool) → GoesOverWords command → command_opening s [] command ≡ cmds.Trace target on → command ≡ Trace target on
 opens_trace s (Load refs) target on goes h = absurd (cc)
 opens_trace s (Delete name) target on goes h = absurd (cc)
 opens_trace s (Put key term) target on goes h = absurd (cc)
@@ -201,11 +201,11 @@ module _ (p : PermitState) (who : ℕ) (d : Decision) (known : IsDecided p who d
 
   by_change : (change : Change) → d.change ≡ change → IsTraceChange change → IsTraceDecided p who d
   by_change (SetTrace generation at traced) is h =
-      let t = is_trace p.script.modules p.server d.cmd quiet_cmd at true (came p.script.modules p.server d.cmd _ (known.given ∙ ap (λ c. Some (made p.server c)) is)) in
+      let t = is_trace p.script.modules p.server d.cmd quiet_cmd at true (came p.script.modules p.server d.cmd _ (known.given ∙ ap (λ c. Some (change_made p.server c)) is)) in
       let f = t.function in
       by_entry (entry_of at) t (subst (TracesInCode p.server) (sym is) (record { current = f.current; code = f.code; is = f.is; has = f.has }))
   by_change (ClearTrace generation at) is h =
-      let t = is_trace p.script.modules p.server d.cmd quiet_cmd at false (came p.script.modules p.server d.cmd _ (known.given ∙ ap (λ c. Some (made p.server c)) is)) in
+      let t = is_trace p.script.modules p.server d.cmd quiet_cmd at false (came p.script.modules p.server d.cmd _ (known.given ∙ ap (λ c. Some (change_made p.server c)) is)) in
       let f = t.function in
       by_entry (entry_of at) t (subst (TracesInCode p.server) (sym is) (record { current = f.current; code = f.code; is = f.is; has = f.has }))
   by_change change is h = absurd h
@@ -215,9 +215,9 @@ module _ (p : PermitState) (who : ℕ) (d : Decision) (known : IsDecided p who d
 
 -- a trace that changes something tells so, with the generation that it publishes
 pub record TellsTrue (s : ServerState) (change : Change) : Type 0 where
-  pub reply : (made s change).answer.reply ≡ replies.True
-  pub published : (made s change).answer.published ≡ Some (s.generation + 1)
-  pub generation : (made s change).state.generation ≡ s.generation + 1
+  pub reply : (change_made s change).answer.reply ≡ replies.True
+  pub published : (change_made s change).answer.published ≡ Some (s.generation + 1)
+  pub generation : (change_made s change).state.generation ≡ s.generation + 1
 
 pub tells_true : (s : ServerState) (change : Change) → IsTraceChange change → TellsTrue s change
 tells_true s (SetTrace generation at traced) h = record { reply = refl; published = refl; generation = refl }

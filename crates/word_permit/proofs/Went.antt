@@ -11,7 +11,7 @@ use Rattle.server_core.specs.declared.change.Change.{Change}
 use Rattle.server_core.specs.declared.change.Change.TheVariants.{BringIn, MakeOld, HoldWord, HoldArea, Forget}
 use Rattle.server_core.specs.declared.command.Applied.{Applied}
 use Rattle.server_core.specs.CommandTable.{Outcome}
-use Rattle.server_core.specs.Decided.{made}
+use Rattle.server_core.specs.Decided.{change_made}
 use Rattle.server_core.specs.ServerState.{ServerState}
 use Rattle.run_log.specs.declared.logs.Entry.{Entry}
 use Rattle.run_log.specs.Journal.{publishes}
@@ -45,7 +45,7 @@ use Rattle.word_permit.specs.Settled.{IsFinished, IsSettled, waiting_with, witho
 use Rattle.word_permit.specs.Waiting.{IsDecided, RestsBy, WordsStand}
 use Rattle.word_permit.proofs.Answered.{answered_quietly, goes_quiet}
 use Rattle.word_permit.proofs.Awaiting.{need_on}
-use Rattle.word_permit.proofs.Calls.{no_look}
+use Rattle.word_permit.proofs.Calls.{no_look, none_before}
 use Rattle.word_permit.proofs.Ended.{PlainDone, entry_for, plain_done, state_joined}
 use Rattle.word_permit.proofs.Growing.{published_more}
 use Rattle.word_permit.proofs.Kept.{has_same, rests}
@@ -53,18 +53,18 @@ use Rattle.word_permit.proofs.Resting.{free_no_trace, held_no_trace, rests_by}
 use Rattle.word_permit.proofs.SpawnedBefore.{notes_later}
 
 -- a change that goes by stages publishes
-code_publishes : (s : ServerState) (change : Change) → IsCodeChange change → is_some (made s change).answer.published ≡ true
+code_publishes : (s : ServerState) (change : Change) → IsCodeChange change → is_some (change_made s change).answer.published ≡ true
 code_publishes s (BringIn generation modules areas versions) h = refl
 code_publishes s (MakeOld generation name) h = refl
 code_publishes s change h = absurd h
 
-key_publishes : (s : ServerState) (change : Change) → IsKeyChange change → is_some (made s change).answer.published ≡ true
+key_publishes : (s : ServerState) (change : Change) → IsKeyChange change → is_some (change_made s change).answer.published ≡ true
 key_publishes s (HoldWord generation key term keys retired) h = refl
 key_publishes s (HoldArea generation key term stored areas keys retired) h = refl
 key_publishes s (Forget generation key retired) h = refl
 key_publishes s change h = absurd h
 
-staged_publishes : (s : ServerState) (change : Change) → IsStaged change → is_some (made s change).answer.published ≡ true
+staged_publishes : (s : ServerState) (change : Change) → IsStaged change → is_some (change_made s change).answer.published ≡ true
 staged_publishes s change (inl code) = code_publishes s change code
 staged_publishes s change (inr key) = key_publishes s change key
 
@@ -130,22 +130,22 @@ module _ (names : List Mfa) (table : TableId) (opening : Opening) (b : WordBook)
       as_decided = subst (λ (o : Option Waiting). IfSome o (λ before. d ≡ before.decision)) (sym none) tt
 
       pub late_waits : (answer : late.NotYet) → IsLateBy d.change b.tables t answer → HasWaited b waiting (IsLateStill b waiting answer)
-      late_waits answer why = record { same = refl; published = published; waits = (_, refl); why = record { waiting = record { decision = d; stage = stage }; waits = refl; same = as_decided; late = why } }
+      late_waits answer why = record { same = refl; published = published; waits = (_, refl); forward = none_before b.waiting waiting.waiting none; why = record { waiting = record { decision = d; stage = stage }; waits = refl; same = as_decided; late = why } }
 
       is_late : (c : WordBook) (told : Result CommandStep NoMemory) (answer : late.NotYet) → IsLateBy d.change b.tables t answer → told ≡ Ok (NotYet answer) → c ≡ waiting → Went names table opening who d b c told
       is_late c told answer why = left_waiting c told (NotYet answer) (inl (late_waits answer why))
 
       awaits_release : (c : WordBook) (told : Result CommandStep NoMemory) → NextAwaitsRelease d.change t.pools (areas_at stage) → told ≡ Ok AwaitRelease → c ≡ waiting → Went names table opening who d b c told
-      awaits_release c told why = left_waiting c told AwaitRelease (record { same = refl; published = published; waits = (_, refl); why = record { waiting = record { decision = d; stage = stage }; waits = refl; same = as_decided; lacks = why } })
+      awaits_release c told why = left_waiting c told AwaitRelease (record { same = refl; published = published; waits = (_, refl); forward = none_before b.waiting waiting.waiting none; why = record { waiting = record { decision = d; stage = stage }; waits = refl; same = as_decided; lacks = why } })
 
     -- the change is published: the server makes it
     module _ (room : new_modules d.cmd ≤ modules.room) (more : journal ≡ b.plain.journal ++ entry_for who d ∷ []) (after : LoaderRun)
         (counts : IsSomeAnd (next_of (shown b.plain) who) (λ command. option_map (loader_after command) (slice_get b.plain.loaders.items who) ≡ Some after)) where
-      module _ (publishing : is_some (made b.plain.server d.change).answer.published ≡ true) where
+      module _ (publishing : is_some (change_made b.plain.server d.change).answer.published ≡ true) where
         publishes_one : publishes (entry_for who d) ≡ 1
         publishes_one = ap (λ yes. if yes then 1 else 0) (ap (λ (a : Applied). is_some a.published) (sym known.answer) ∙ publishing)
 
-        module _ (generation : ℕ) (published : HasPublished names (made b.plain.server d.change).state b.tables t generation) (c : WordBook) (applied : Applied) (finished : IsFinished who d.change after stepped.plain c.plain applied)
+        module _ (generation : ℕ) (published : HasPublished names (change_made b.plain.server d.change).state b.tables t generation) (c : WordBook) (applied : Applied) (finished : IsFinished who d.change after stepped.plain c.plain applied)
             (left : c ≡ record stepped { plain = c.plain }) where
           done : PlainDone who b.plain c.plain applied
           done = plain_done b.plain had.book who d held known modules same room journal more c.plain after applied finished counts
@@ -153,7 +153,7 @@ module _ (names : List Mfa) (table : TableId) (opening : Opening) (b : WordBook)
           tables_are : c.tables ≡ t
           tables_are = ap (λ (x : WordBook). x.tables) left
 
-          server_is : (made b.plain.server d.change).state ≡ c.plain.server
+          server_is : (change_made b.plain.server d.change).state ≡ c.plain.server
           server_is = ap (λ (o : Outcome). o.state) finished.made_is
 
           published_is : ArePublished names c.plain.script.modules c.plain.journal (written_by c.tables.writer).published

@@ -1,6 +1,6 @@
 -- What a permit keeps over the words that all threads share, and what each call leaves of it.
 -- Source: this project's profile; the phases of a load are those of erts internal documentation, CodeLoading.
-use Rattle.std.specs.Prelude.{◌≡◌, ◌⊎◌, ℕ, Bool, List, [], ◌∷◌, ◌++◌, Option, Some, None, IfSome, IsSomeAnd, All}
+use Rattle.std.specs.Prelude.{◌≡◌, ◌⊎◌, ℕ, ◌≤◌, Bool, List, [], ◌∷◌, ◌++◌, Option, Some, None, IfSome, IsSomeAnd, All}
 use Rattle.atomic_table.specs.Seated.{TableId}
 use Rattle.term_core.specs.declared.atom.Mfa.{Mfa}
 use Rattle.shared_words.specs.declared.opening.Opening.{Opening}
@@ -17,7 +17,7 @@ use Rattle.script_core.specs.declared.script.Script.{Script}
 use Rattle.script_core.specs.declared.script.ScriptCmd.TheVariants.{Trace}
 use Rattle.staging.specs.declared.tables.Tables.{Tables}
 use Rattle.staging.specs.Placed.{NextAwaitsRelease}
-use Rattle.staging.specs.Stages.{IsLateFor, areas_at}
+use Rattle.staging.specs.Stages.{IsLateFor, areas_at, stage_number}
 use Rattle.staging.specs.Traced.{IsPatchLate}
 use Rattle.staging.specs.Whose.{AreTablesOf}
 use Rattle.run_log.specs.declared.logs.Entry.{Entry}
@@ -110,11 +110,16 @@ TellsNone cmd = Unit {0}
 abbrev pub JoinsUnpublished : List Entry → List Entry → Type 0
 JoinsUnpublished old new = (e : Entry) × ((new ≡ old ++ e ∷ []) × ((e.published ≡ None) × TellsNone e.cmd))
 
--- nothing is published and no entry joined, and this is why the command waits
+-- the stage of what waits is not behind that of what waited before
+abbrev pub StageGoesOn : Option Waiting → Option Waiting → Type 0
+StageGoesOn old new = IfSome old (λ before. IfSome new (λ after. stage_number before.stage ≤ stage_number after.stage))
+
+-- nothing is published and no entry joined, and this is why the command waits; where it waited before, the words are no less far with it
 pub record HasWaited (old new : WordBook) (Why : Type 0) : Type 0 where
   pub same : shown new.plain ≡ shown old.plain
   pub published : PublishesNone old new
   pub waits : (w : Waiting) × (new.waiting ≡ Some w)
+  pub forward : StageGoesOn old.waiting new.waiting
   pub why : Why
 
 -- what a change waits for: the same value as before this call, if it waited then; one of what is traced for that of its patch, whose next phase has another

@@ -5,10 +5,11 @@ use Rattle.term_core.specs.declared.atom.AtomId.{AtomId}
 use Rattle.mod_core.specs.declared.code.Module.{Module}
 use Rattle.marks.specs.declared.kept.LookKind.TheVariants.{Frame}
 use Rattle.marks.specs.declared.kept.WriterKept.{WriterKept}
-use Rattle.marks.specs.Steps.{with_dropped}
+use Rattle.marks.specs.Steps.{with_drop_kept, with_lingering}
 use Rattle.shared_words.specs.declared.view.WriterView.{WriterView}
 use Rattle.shared_words.specs.Drops.{AgreesWithLooks, drop_of}
-use Rattle.shared_words.specs.Views.{newest}
+use Rattle.shared_words.specs.Lingering.{lingering_of}
+use Rattle.shared_words.specs.Views.{newest_number}
 use Rattle.progress_words.specs.declared.answers.NotYet as late
 use Rattle.progress_words.specs.Tokens.{written_by}
 use Rattle.anchors.specs.declared.answers.Scan.{Scan}
@@ -17,8 +18,11 @@ use Rattle.server_core.specs.declared.change.Change.{Change}
 use Rattle.server_core.specs.declared.change.Change.TheVariants.{Condemn, DropOld}
 use Rattle.server_core.specs.declared.command.Applied.{Applied}
 use Rattle.server_core.specs.declared.command.Cmd.{Cmd}
-use Rattle.server_core.specs.CommandTable.{Outcome, apply_of}
-use Rattle.server_core.specs.Decided.{Fits, made}
+use Rattle.server_core.specs.declared.command.Cmd.TheVariants as cmds
+use Rattle.server_core.specs.declared.command.Linger.{Linger}
+use Rattle.server_core.specs.declared.command.Reply.TheVariants as replies
+use Rattle.server_core.specs.CommandTable.{Outcome, answered, apply_of}
+use Rattle.server_core.specs.Decided.{Fits, change_made}
 use Rattle.server_core.specs.ServerState.{IsSound, ServerState, old_of}
 use Rattle.script_core.specs.declared.script.ScriptCmd.{ScriptCmd}
 use Rattle.script_core.specs.declared.script.ScriptCmd.TheVariants.{Purge, SoftPurge}
@@ -27,10 +31,11 @@ use Rattle.run_law.specs.Answers.{IsAnswerKept}
 use Rattle.breakpoints.specs.Patches.{LoadsCounter}
 use Rattle.write_permit.specs.declared.answers.OpStep.TheVariants as steps
 use Rattle.write_permit.specs.declared.book.Book.{Book}
+use Rattle.write_permit.specs.declared.holder.Holder.{Holder}
 use Rattle.write_permit.specs.declared.holder.Holder.TheVariants.{Held, Purging}
 use Rattle.write_permit.specs.Agreement.{newest_followed, newest_of}
 use Rattle.write_permit.specs.Book.{EndsBy, shown}
-use Rattle.write_permit.specs.Permit.{PermitState, done_of, doomed_by, ended_with, next_of}
+use Rattle.write_permit.specs.Permit.{PermitState, done_of, doomed_by, command_ended, next_of}
 use Rattle.word_permit.specs.declared.answers.CommandStep.{CommandStep}
 use Rattle.word_permit.specs.declared.answers.CommandStep.TheVariants.{Done, NotYet, AwaitRelease, Lingers}
 use Rattle.word_permit.specs.declared.book.Decision.{Decision}
@@ -68,8 +73,8 @@ EndsNext p who cmd = IsSomeAnd (next_of p who) (λ command. EndsBy p p.holder co
 -- the command table has a case for it, and what it answers was told
 pub record IsMadeBy (p : PermitState) (d : Decision) : Type 0 where
   pub fits : Fits p.server d.change
-  pub given : apply_of p.script.modules p.server d.cmd ≡ Some (made p.server d.change)
-  pub answer : (made p.server d.change).answer ≡ d.applied
+  pub given : apply_of p.script.modules p.server d.cmd ≡ Some (change_made p.server d.change)
+  pub answer : (change_made p.server d.change).answer ≡ d.applied
 
 -- the change drops the old code with this serial
 abbrev pub DropsCode : Change → ℕ → Type 0
@@ -87,12 +92,12 @@ LeavesServer texts s cmd = (o : Outcome) → apply_of texts s cmd ≡ Some o →
 
 -- what the command tells of processes is kept, in this state and at the newest generation
 abbrev pub IsToldBy : ServerState → WriterView → WriterKept → Cmd → Type 0
-IsToldBy s w kept cmd = IsAnswerKept s (newest w.published) kept cmd
+IsToldBy s w kept cmd = IsAnswerKept s (newest_number w.published) kept cmd
 
 -- so it is once the drop of the old code is kept besides
 abbrev pub IsToldByDrop : ServerState → WriterView → ℕ → Cmd → Type 0
 IsToldByDrop s w serial cmd =
-    (kept : WriterKept) → kept ≡ with_dropped w.looks (drop_of w Frame serial) → AgreesWithLooks w.looks (drop_of w Frame serial) → IsToldBy s w kept cmd
+    (kept : WriterKept) → kept ≡ with_drop_kept w.looks (drop_of w Frame serial) → AgreesWithLooks w.looks (drop_of w Frame serial) → IsToldBy s w kept cmd
 
 -- ---- what a call leaves
 
@@ -134,7 +139,14 @@ pub record AwaitsLook (who : ℕ) (old new : WordBook) (answer : late.NotYet) : 
   pub none : new.waiting ≡ None
   pub since : (HasBegun who old × StillWaits old new answer.need) ⊎ HasDoomedCode who old new
 
--- the purge waits: a look that was made in this call, behind a wait at the newest generation, found an anchor that names its old code for a frame
+-- which of the two commands it is: a purge, whose code is doomed, or a soft purge, which dooms nothing
+abbrev pub LingersAs : ℕ → Holder → ScriptCmd → Type 0
+LingersAs who holder (SoftPurge name) = holder ≡ Held who
+LingersAs who holder (Purge name) = holder ≡ Purging who name
+LingersAs who holder command = ⊥
+
+-- the purge waits: a look that was made in this call, behind a wait at the newest generation, found an anchor that names its old code for a frame. The
+-- look alone is what the writer has learnt of slots, so it keeps no answer that a process lingers, by which a soft purge would be done
 pub record LingersIn (who : ℕ) (old new : WordBook) (process turn place word : ℕ) : Type 0 where
   pub begun : HasBegun who old
   pub same : shown new.plain ≡ shown old.plain
@@ -142,15 +154,72 @@ pub record LingersIn (who : ℕ) (old new : WordBook) (process turn place word :
   pub none : new.waiting ≡ None
   pub serial : ℕ
   pub code : IsSomeAnd (next_of (shown old.plain) who) (λ command. IsOldCodeOf old.plain.server command serial)
+  pub holds : IsSomeAnd (next_of (shown old.plain) who) (LingersAs who old.plain.holder)
   pub found : HasLookedFor serial (written_by old.tables.writer) (written_by new.tables.writer) (scans.Named process turn place word)
 
+-- what the last command of a soft purge or a purge answers
+abbrev pub RepliesSo : Cmd → Applied → Type 0
+RepliesSo (cmds.SoftPurge name None) applied = applied.reply ≡ replies.True
+RepliesSo (cmds.SoftPurge name (Some linger)) applied = applied.reply ≡ replies.FalseBy linger
+RepliesSo (cmds.Purge name killed) applied = applied.reply ≡ answered killed
+RepliesSo cmd applied = Unit {0}
+
 -- the loader's command is done by this last command of the server, and the writer keeps what that tells of processes
-pub record EndsPurge (who : ℕ) (old new : WordBook) (applied : Applied) : Type 0 where
-  pub cmd : Cmd
+pub record EndsWith (who : ℕ) (cmd : Cmd) (old new : WordBook) (applied : Applied) : Type 0 where
   pub ends : EndsNext (shown old.plain) who cmd
-  pub step : ended_with (shown old.plain) who cmd ≡ Some (record { state = shown new.plain; answer = steps.Done applied })
+  pub step : command_ended (shown old.plain) who cmd ≡ Some (record { state = shown new.plain; answer = steps.Done applied })
+  pub reply : RepliesSo cmd applied
   pub told : IsToldBy old.plain.server (written_by old.tables.writer) (written_by new.tables.writer).looks cmd
   pub none : new.waiting ≡ None
+
+-- of looks the drop of the old code is kept besides, and nothing else
+abbrev pub IsCodeDropped : ℕ → WriterView → WriterView → Type 0
+IsCodeDropped serial known new = new.looks ≡ with_drop_kept known.looks (drop_of known Frame serial)
+
+-- of looks the answer is kept besides that this process lingers, and nothing else
+pub record IsLingerKept (serial process turn : ℕ) (known new : WriterView) (linger : Linger) : Type 0 where
+  pub linger_is : linger ≡ record { process = process; turn = turn }
+  pub looks : new.looks ≡ with_lingering known.looks (lingering_of known process serial turn)
+
+-- what a look found ends the command: where it was clear the old code goes, and a purge tells whom that has killed; where it named a process, a soft
+-- purge tells that this one lingers, and a purge does not end
+abbrev pub IsEndedBy : ℕ → Scan → WriterView → WriterView → Cmd → Type 0
+IsEndedBy serial (scans.Clear killed) known new (cmds.SoftPurge name None) = IsCodeDropped serial known new
+IsEndedBy serial (scans.Clear killed) known new (cmds.Purge name told) = (told ≡ killed) × IsCodeDropped serial known new
+IsEndedBy serial (scans.Named process turn place word) known new (cmds.SoftPurge name (Some linger)) = IsLingerKept serial process turn known new linger
+IsEndedBy serial scan known new cmd = ⊥
+
+-- in this call the writer looked for the old code, behind a wait at the newest generation, and what it found ended the command
+pub record EndsByLook (serial : ℕ) (cmd : Cmd) (old new : WriterView) : Type 0 where
+  -- what the writer knew behind the look
+  pub known : WriterView
+  pub published : known.published ≡ old.published
+  pub scan : Scan
+  pub found : HasLookedFor serial old known scan
+  pub ends : IsEndedBy serial scan known new cmd
+
+-- so it is where there is old code; where there is none, the writer has made no step
+abbrev pub EndsByCode : Option ℕ → Cmd → WriterView → WriterView → Type 0
+EndsByCode (Some serial) cmd old new = EndsByLook serial cmd old new
+EndsByCode None cmd old new = new ≡ old
+
+-- the command names a module with this old code
+abbrev pub NamesCode : ServerState → ℕ → Cmd → Type 0
+NamesCode s serial (cmds.SoftPurge name linger) = old_of s name.0 ≡ Some serial
+NamesCode s serial (cmds.Purge name killed) = old_of s name.0 ≡ Some serial
+NamesCode s serial cmd = ⊥
+
+-- by the old code of the module that the command names
+abbrev pub IsEndLooked : ServerState → WriterView → WriterView → Cmd → Type 0
+IsEndLooked s old new (cmds.SoftPurge name linger) = EndsByCode (old_of s name.0) (cmds.SoftPurge name linger) old new
+IsEndLooked s old new (cmds.Purge name killed) = EndsByCode (old_of s name.0) (cmds.Purge name killed) old new
+IsEndLooked s old new cmd = ⊥
+
+-- the loader's soft purge or purge is done by this last command of the server, and by a look of this very call, if there is old code
+pub record EndsPurge (who : ℕ) (old new : WordBook) (applied : Applied) : Type 0 where
+  pub cmd : Cmd
+  pub ended : EndsWith who cmd old new applied
+  pub looked : IsEndLooked old.plain.server (written_by old.tables.writer) (written_by new.tables.writer) cmd
 
 -- what each answer says
 abbrev pub PurgeAnswers : ℕ → WordBook → WordBook → CommandStep → Type 0
@@ -159,12 +228,12 @@ PurgeAnswers who old new (NotYet answer) = AwaitsLook who old new answer
 PurgeAnswers who old new AwaitRelease = ⊥
 PurgeAnswers who old new (Lingers process turn place word) = LingersIn who old new process turn place word
 
--- what is so where a call ends the command
-abbrev pub EndAnswers : ℕ → WordBook → WordBook → CommandStep → Type 0
-EndAnswers who old new (Done applied) = EndsPurge who old new applied
-EndAnswers who old new (NotYet answer) = ⊥
-EndAnswers who old new AwaitRelease = ⊥
-EndAnswers who old new (Lingers process turn place word) = ⊥
+-- what is so where a call ends the command by this last command of the server
+abbrev pub EndAnswers : ℕ → Cmd → WordBook → WordBook → CommandStep → Type 0
+EndAnswers who cmd old new (Done applied) = EndsWith who cmd old new applied
+EndAnswers who cmd old new (NotYet answer) = ⊥
+EndAnswers who cmd old new AwaitRelease = ⊥
+EndAnswers who cmd old new (Lingers process turn place word) = ⊥
 
 -- the look named this anchor, and nothing has changed since, nor was learnt
 pub record AwaitsFound (scan : Scan) (old new : WordBook) (process turn place word : ℕ) : Type 0 where
@@ -173,12 +242,19 @@ pub record AwaitsFound (scan : Scan) (old new : WordBook) (process turn place wo
   pub view : written_by new.tables.writer ≡ written_by old.tables.writer
   pub none : new.waiting ≡ None
 
+-- the command ends by what the look found
+pub record EndsByFound (who serial : ℕ) (scan : Scan) (old new : WordBook) (applied : Applied) : Type 0 where
+  pub cmd : Cmd
+  pub ended : EndsWith who cmd old new applied
+  pub code : NamesCode old.plain.server serial cmd
+  pub ends : IsEndedBy serial scan (written_by old.tables.writer) (written_by new.tables.writer) cmd
+
 -- what is so behind a look: the command ends, or waits for whom the look found
-abbrev pub LookAnswers : ℕ → Scan → WordBook → WordBook → CommandStep → Type 0
-LookAnswers who scan old new (Done applied) = EndsPurge who old new applied
-LookAnswers who scan old new (NotYet answer) = ⊥
-LookAnswers who scan old new AwaitRelease = ⊥
-LookAnswers who scan old new (Lingers process turn place word) = AwaitsFound scan old new process turn place word
+abbrev pub LookAnswers : ℕ → ℕ → Scan → WordBook → WordBook → CommandStep → Type 0
+LookAnswers who serial scan old new (Done applied) = EndsByFound who serial scan old new applied
+LookAnswers who serial scan old new (NotYet answer) = ⊥
+LookAnswers who serial scan old new AwaitRelease = ⊥
+LookAnswers who serial scan old new (Lingers process turn place word) = AwaitsFound scan old new process turn place word
 
 -- the same of each command that needs the permission
 pub record CommandAnswers (who : ℕ) (old new : WordBook) (step : CommandStep) : Type 0 where
@@ -199,7 +275,7 @@ purged_by command = None
 -- the change with which old code is doomed is made: the module table follows the newest entry, and the purge waits
 pub record IsDoomMade (who : ℕ) (name : AtomId) (change : Change) (old new : Book) : Type 0 where
   pub applied : Applied
-  pub made_is : made old.server change ≡ record { state = new.server; answer = applied }
+  pub made_is : change_made old.server change ≡ record { state = new.server; answer = applied }
   pub state : shown new ≡ record (shown old) { server = new.server; holder = Purging who name }
   pub table : new.modules.instances ≡ newest_followed old.modules.instances new.server (newest_of old.journal)
   pub sound : IsSound new.server

@@ -4,7 +4,7 @@ use Rattle.std.specs.Prelude.{◌≡◌, ℕ, List, [], ◌∷◌, ◌++◌, sli
 use Rattle.term_core.specs.declared.no_memory.NoMemory.{NoMemory}
 use Rattle.server_core.specs.declared.change.Change.{Change}
 use Rattle.server_core.specs.declared.command.Applied.{Applied}
-use Rattle.server_core.specs.Decided.{made}
+use Rattle.server_core.specs.Decided.{change_made}
 use Rattle.server_core.specs.ServerState.{IsSound}
 use Rattle.run_log.specs.declared.logs.Entry.{Entry}
 use Rattle.staging.specs.declared.stage.Stage.{Stage}
@@ -22,7 +22,7 @@ use Rattle.word_permit.specs.declared.book.WordBook.{WordBook}
 
 -- the change is made: the module table follows the newest entry, the loader is one command further, and the permission is free
 pub record IsFinished (who : ℕ) (change : Change) (after : LoaderRun) (old new : Book) (applied : Applied) : Type 0 where
-  pub made_is : made old.server change ≡ record { state = new.server; answer = applied }
+  pub made_is : change_made old.server change ≡ record { state = new.server; answer = applied }
   pub state : shown new ≡ record (shown old) { server = new.server; loaders = slice_set old.loaders.items who after; holder = Free }
   pub table : new.modules.instances ≡ newest_followed old.modules.instances new.server (newest_of old.journal)
   pub sound : IsSound new.server

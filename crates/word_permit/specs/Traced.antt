@@ -4,7 +4,7 @@ use Rattle.std.specs.Prelude.{◌≡◌, ℕ, Some, None}
 use Rattle.progress_words.specs.declared.answers.NotYet.{NotYet}
 use Rattle.server_core.specs.declared.change.Change.{Change}
 use Rattle.server_core.specs.declared.command.Applied.{Applied}
-use Rattle.server_core.specs.Decided.{made}
+use Rattle.server_core.specs.Decided.{change_made}
 use Rattle.server_core.specs.ServerState.{IsSound}
 use Rattle.staging.specs.declared.stage.Stage.{Stage}
 use Rattle.staging.specs.declared.stage.Step.{Step}
@@ -27,7 +27,7 @@ use Rattle.word_permit.specs.Settled.{WaitsAt}
 -- the trace is made: the module table follows the newest entry, and the breakpoint that this generation shows is to be switched throughout
 pub record IsTraceMade (who generation : ℕ) (change : Change) (old new : Book) : Type 0 where
   pub applied : Applied
-  pub made_is : made old.server change ≡ record { state = new.server; answer = applied }
+  pub made_is : change_made old.server change ≡ record { state = new.server; answer = applied }
   pub state : shown new ≡ record (shown old) { server = new.server; holder = Tracing who generation }
   pub table : new.modules.instances ≡ newest_followed old.modules.instances new.server (newest_of old.journal)
   pub sound : IsSound new.server

@@ -5,7 +5,7 @@ use Rattle.term_core.specs.declared.atom.Mfa.{Mfa}
 use Rattle.server_core.specs.declared.change.Change.{Change}
 use Rattle.server_core.specs.declared.change.Change.TheVariants.{Nothing}
 use Rattle.server_core.specs.CommandTable.{apply_of}
-use Rattle.server_core.specs.Decided.{Fits, made}
+use Rattle.server_core.specs.Decided.{Fits, change_made}
 use Rattle.server_core.specs.ServerState.{ServerState}
 use Rattle.script_core.specs.declared.script.ScriptCmd.{ScriptCmd}
 use Rattle.script_core.specs.declared.script.ScriptCmd.TheVariants.{Load, Delete, Put, Erase, Trace}
@@ -14,7 +14,7 @@ use Rattle.staging.specs.Stages.{AreAtRest, AreSettling, IsStaged, StageStands}
 use Rattle.staging.specs.Traced.{IsTraceChange}
 use Rattle.write_permit.specs.declared.holder.Holder.{Holder}
 use Rattle.write_permit.specs.declared.holder.Holder.TheVariants.{Free, Held, Purging, Tracing}
-use Rattle.write_permit.specs.Permit.{PermitState, next_of, opening}
+use Rattle.write_permit.specs.Permit.{PermitState, next_of, command_opening}
 use Rattle.word_permit.specs.declared.book.Decision.{Decision}
 use Rattle.word_permit.specs.declared.book.Waiting.{Waiting}
 use Rattle.word_permit.specs.declared.deciding.Course.{Course}
@@ -50,10 +50,10 @@ pub record IsDecided (p : PermitState) (who : ℕ) (d : Decision) : Type 0 where
   pub command : ScriptCmd
   pub next : next_of p who ≡ Some command
   pub goes : GoesOverWords command
-  pub cmd_is : d.cmd ≡ opening p.server [] command
+  pub cmd_is : d.cmd ≡ command_opening p.server [] command
   pub fits : Fits p.server d.change
-  pub given : apply_of p.script.modules p.server d.cmd ≡ Some (made p.server d.change)
-  pub answer : (made p.server d.change).answer ≡ d.applied
+  pub given : apply_of p.script.modules p.server d.cmd ≡ Some (change_made p.server d.change)
+  pub answer : (change_made p.server d.change).answer ≡ d.applied
 
 -- it waits: it is that of the loader which has the permission, and the words are this far with it
 pub record IsWaiting (names : List Mfa) (p : PermitState) (t : Tables) (w : Waiting) : Type 0 where

@@ -2,7 +2,7 @@
 
 ghost use Rattle.std.specs.Prelude.{◌≡◌, ◌+◌, ◌<◌, ◌≤◌, ◌^◌, [], ◌∷◌, ◌++◌, false, true, IfOk, IsSome, OnErr, OnOk, Some};
 ghost use Rattle.server_core.specs.CommandTable.{AreTexts, IsOfText, apply_of};
-ghost use Rattle.server_core.specs.Decided.{Fits, made};
+ghost use Rattle.server_core.specs.Decided.{Fits, change_made};
 ghost use Rattle.staging.specs.Traced.{IsTraceChange};
 ghost use Rattle.write_permit.specs.Agreement.{new_modules};
 ghost use Rattle.word_permit.specs.Waiting.{IsCourseOf};
@@ -39,8 +39,8 @@ pub fn decide(book: &Book, cmd: Cmd) -> Result<Decision, NoMemory>
     requires put { IsOfText cmd }
     requires enabled { IsSome (apply_of book.now.script.modules book.now.server cmd) }
     ensures fits { IfOk result (λ d. Fits book.now.server d.change) }
-    ensures given { IfOk result (λ d. apply_of book.now.script.modules book.now.server cmd ≡ Some (made book.now.server d.change)) }
-    ensures answer { IfOk result (λ d. (made book.now.server d.change).answer ≡ d.applied) }
+    ensures given { IfOk result (λ d. apply_of book.now.script.modules book.now.server cmd ≡ Some (change_made book.now.server d.change)) }
+    ensures answer { IfOk result (λ d. (change_made book.now.server d.change).answer ≡ d.applied) }
     ensures cmd { IfOk result (λ d. d.cmd ≡ cmd) }
 {
     let change = decided(&book.server, &cmd, &book.script.modules)?;

@@ -2,7 +2,7 @@
 
 ghost use Rattle.std.specs.Prelude.{◌≡◌, IfOk, None, OnErr, OnOk, Some};
 ghost use Rattle.server_core.specs.declared.command.Cmd.TheVariants as cmds;
-ghost use Rattle.server_core.specs.Decided.{Fits, made};
+ghost use Rattle.server_core.specs.Decided.{Fits, change_made};
 ghost use Rattle.server_core.specs.ServerState.{old_of};
 ghost use Rattle.script_core.specs.declared.script.ScriptCmd.TheVariants.{Purge};
 ghost use Rattle.write_permit.specs.declared.holder.Holder.TheVariants as holders;
@@ -186,7 +186,7 @@ fn join_doom<K: Naming>(
 /// The doom was published, and its entry is the newest: the server makes it, the module table follows, and the purge waits.
 fn finish_doom(book: &mut Book, who: u32, module: AtomId, change: Change)
     requires fits { Fits book.old.server change }
-    requires can { CanFollowNewest book.old.modules (made book.old.server change).state (newest_of book.old.journal) }
+    requires can { CanFollowNewest book.old.modules (change_made book.old.server change).state (newest_of book.old.journal) }
     ensures { IsDoomMade who «module» change book.old book.new }
 {
     book.server.make(change);

@@ -6,9 +6,9 @@ ghost use Rattle.shared_words.specs.Slots.{IsClear};
 ghost use Rattle.progress_words.specs.Tokens.{written_by};
 ghost use Rattle.write_permit.specs.declared.answers.OpStep.TheVariants as steps;
 ghost use Rattle.write_permit.specs.Book.{IsBook, shown};
-ghost use Rattle.write_permit.specs.Permit.{ended_with, holder_of};
+ghost use Rattle.write_permit.specs.Permit.{command_ended, holder_of};
 ghost use Rattle.word_permit.specs.Books.{HasTakenBack, IsWordBook};
-ghost use Rattle.word_permit.specs.Purged.{DropsCode, EndAnswers, EndsNext, IsMadeBy, IsToldBy, IsToldByDrop, LeavesServer};
+ghost use Rattle.word_permit.specs.Purged.{DropsCode, EndAnswers, EndsNext, IsCodeDropped, IsMadeBy, IsToldBy, IsToldByDrop, LeavesServer};
 
 use crate::answers::CommandStep;
 use crate::book::{Decision, WordBook};
@@ -36,7 +36,8 @@ pub fn end_quietly<K: Naming>(
     requires ends { EndsNext (shown book.old.plain) who cmd }
     requires leaves { LeavesServer book.old.plain.script.modules book.old.plain.server cmd }
     requires told { IsToldBy book.old.plain.server (written_by book.old.tables.writer) (written_by book.old.tables.writer).looks cmd }
-    ensures ok { IfOk result (EndAnswers who book.old book.new) }
+    ensures ok { IfOk result (EndAnswers who cmd book.old book.new) }
+    ensures tables { book.new.tables ≡ book.old.tables }
     ensures err { OnErr result (HasTakenBack book.old book.new) }
     ensures need { book.new.need ≡ book.old.need }
     ensures book { IsWordBook K.names _shared.now.table.shared.table_id _shared.now.table.shared.key book.new }
@@ -55,7 +56,7 @@ fn end_with(book: &mut Book, who: u32, cmd: Cmd) -> Result<Applied, NoMemory>
     requires book { IsBook book.old }
     requires holds { holder_of book.old.holder ≡ Some who }
     requires ends { EndsNext (shown book.old) who cmd }
-    ensures ok { IfOk result (λ applied. ended_with (shown book.old) who cmd ≡ Some (record { state = shown book.new; answer = steps.Done applied })) }
+    ensures ok { IfOk result (λ applied. command_ended (shown book.old) who cmd ≡ Some (record { state = shown book.new; answer = steps.Done applied })) }
     ensures err { OnErr result (shown book.new ≡ shown book.old) }
     ensures book { IsBook book.new }
 {
@@ -79,7 +80,8 @@ pub fn drop_code<K: Naming>(
     requires ends { EndsNext (shown book.old.plain) who cmd }
     requires clear { IsClear (written_by book.old.tables.writer) Frame serial }
     requires told { IsToldByDrop book.old.plain.server (written_by book.old.tables.writer) serial cmd }
-    ensures ok { IfOk result (EndAnswers who book.old book.new) }
+    ensures ok { IfOk result (EndAnswers who cmd book.old book.new) }
+    ensures dropped { IfOk result (λ step. IsCodeDropped serial (written_by book.old.tables.writer) (written_by book.new.tables.writer)) }
     ensures err { OnErr result (HasTakenBack book.old book.new) }
     ensures need { book.new.need ≡ book.old.need }
     ensures book { IsWordBook K.names shared.now.table.shared.table_id shared.now.table.shared.key book.new }
@@ -135,7 +137,8 @@ fn end_dropped<K: Naming>(
     requires made { IsMadeBy (shown book.old.plain) decision }
     requires clear { IsClear (written_by book.old.tables.writer) Frame serial }
     requires told { IsToldByDrop book.old.plain.server (written_by book.old.tables.writer) serial decision.cmd }
-    ensures ok { IfOk result (EndAnswers who book.old book.new) }
+    ensures ok { IfOk result (EndAnswers who decision.cmd book.old book.new) }
+    ensures dropped { IfOk result (λ step. IsCodeDropped serial (written_by book.old.tables.writer) (written_by book.new.tables.writer)) }
     ensures err { OnErr result (HasTakenBack book.old book.new) }
     ensures need { book.new.need ≡ book.old.need }
     ensures book { IsWordBook K.names shared.now.table.shared.table_id shared.now.table.shared.key book.new }
@@ -163,7 +166,8 @@ fn publish_drop<K: Naming>(
     requires drops { DropsCode decision.change _serial }
     requires clear { IsClear (written_by book.old.tables.writer) Frame _serial }
     requires told { IsToldByDrop book.old.plain.server (written_by book.old.tables.writer) _serial decision.cmd }
-    ensures ok { IfOk result (EndAnswers who book.old book.new) }
+    ensures ok { IfOk result (EndAnswers who decision.cmd book.old book.new) }
+    ensures dropped { IfOk result (λ step. IsCodeDropped _serial (written_by book.old.tables.writer) (written_by book.new.tables.writer)) }
     ensures err { OnErr result (HasTakenBack book.old book.new) }
     ensures need { book.new.need ≡ book.old.need }
     ensures book { IsWordBook K.names shared.now.table.shared.table_id shared.now.table.shared.key book.new }

@@ -1,8 +1,8 @@
 //! A decided command goes on over the words until an answer is due.
 
-ghost use Rattle.std.specs.Prelude.{◌≡◌, ◌<◌, length, None, IfOk, IfSome, OnErr};
-ghost use Rattle.server_core.specs.Decided.{Fits, made};
-ghost use Rattle.staging.specs.Stages.{IsStaged, StageStands};
+ghost use Rattle.std.specs.Prelude.{◌≡◌, ◌<◌, ◌≤◌, length, None, IfOk, IfSome, OnErr};
+ghost use Rattle.server_core.specs.Decided.{Fits, change_made};
+ghost use Rattle.staging.specs.Stages.{IsStaged, StageStands, stage_number};
 ghost use Rattle.write_permit.specs.declared.holder.Holder.TheVariants as holders;
 ghost use Rattle.write_permit.specs.Agreement.{CanFollowNewest, newest_of};
 ghost use Rattle.write_permit.specs.Book.{IsBook, shown};
@@ -40,8 +40,9 @@ pub fn go_on_decided<K: Naming>(
     requires staged { IsStaged waiting.decision.change }
     requires stands { StageStands K.names book.old.plain.server waiting.decision.change book.old.tables waiting.stage }
     ensures ok { IfOk result (OpAnswers who book.old book.new) }
-    // where it waits on, it does so as it was decided
+    // where it waits on, it does so as it was decided, at no earlier stage
     ensures decision { IfOk result (λ step. IfSome book.new.waiting (λ w. w.decision ≡ waiting.decision)) }
+    ensures forward { IfOk result (λ step. IfSome book.new.waiting (λ w. stage_number waiting.stage ≤ stage_number w.stage)) }
     ensures err { OnErr result (HasTakenBack book.old book.new) }
     ensures need { book.new.need ≡ book.old.need }
     ensures book { IsWordBook K.names shared.now.table.shared.table_id shared.now.table.shared.key book.new }
@@ -82,7 +83,7 @@ fn settle(
     after: LoaderRun,
 ) -> Result<CommandStep, NoMemory>
     requires fits { Fits book.old.plain.server change }
-    requires can { CanFollowNewest book.old.plain.modules (made book.old.plain.server change).state (newest_of book.old.plain.journal) }
+    requires can { CanFollowNewest book.old.plain.modules (change_made book.old.plain.server change).state (newest_of book.old.plain.journal) }
     requires there { who < length book.old.plain.loaders.items }
     requires joined { 0 < length book.old.plain.journal }
     ensures { IsSettled who change stage after book.old book.new step result }
@@ -111,7 +112,7 @@ fn settle(
 /// command further, and the permission is free.
 pub fn finish_change(book: &mut Book, who: u32, change: Change, after: LoaderRun) -> Applied
     requires fits { Fits book.old.server change }
-    requires can { CanFollowNewest book.old.modules (made book.old.server change).state (newest_of book.old.journal) }
+    requires can { CanFollowNewest book.old.modules (change_made book.old.server change).state (newest_of book.old.journal) }
     requires there { who < length book.old.loaders.items }
     ensures { IsFinished who change after book.old book.new result }
 {

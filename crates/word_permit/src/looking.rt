@@ -3,7 +3,7 @@
 ghost use Rattle.std.specs.Prelude.{◌≡◌, ◌+◌, IfErr, IfOk, IfSome, None, OnOk, Some, if◌then◌else◌};
 ghost use Rattle.server_core.specs.ServerState.{old_of};
 ghost use Rattle.anchors.specs.declared.answers.Scan.TheVariants as scans;
-ghost use Rattle.shared_words.specs.Views.{newest};
+ghost use Rattle.shared_words.specs.Views.{newest_number};
 ghost use Rattle.progress_words.specs.Needs.{IsBelow};
 ghost use Rattle.progress_words.specs.Tokens.{written_by};
 ghost use Rattle.breakpoints.specs.Patches.{LoadsCounter};
@@ -11,7 +11,7 @@ ghost use Rattle.area_core.specs.Generations.{names_frame};
 ghost use Rattle.run_law.specs.Answers.{HasLingering};
 ghost use Rattle.word_permit.specs.Books.{IsWordBook};
 ghost use Rattle.word_permit.specs.Looks.{HasLooked, HasLookedFor, IsReached, KeepsLooks};
-ghost use Rattle.word_permit.specs.Purged.{IsLookLate, JustLooks};
+ghost use Rattle.word_permit.specs.Purged.{IsLingerKept, IsLookLate, JustLooks};
 
 use crate::book::WordBook;
 use anchors::{Scan, scan};
@@ -158,7 +158,8 @@ pub fn keep_lingering<K: Naming>(
 ) -> Option<Linger>
     requires book { IsWordBook K.names shared.now.table.shared.table_id shared.now.table.shared.key book.old }
     requires found { HasLooked serial (written_by book.old.tables.writer) (scans.Named process turn place _word) }
-    ensures kept { IfSome result (HasLingering (written_by book.new.tables.writer).looks serial (newest (written_by book.old.tables.writer).published)) }
+    ensures kept { IfSome result (HasLingering (written_by book.new.tables.writer).looks serial (newest_number (written_by book.old.tables.writer).published)) }
+    ensures lingers { IfSome result (IsLingerKept serial process turn (written_by book.old.tables.writer) (written_by book.new.tables.writer)) }
     ensures left { result ≡ None → written_by book.new.tables.writer ≡ written_by book.old.tables.writer }
     ensures same { JustLooks book.old book.new }
     ensures need { book.new.need ≡ book.old.need }

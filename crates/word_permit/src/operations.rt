@@ -1,7 +1,7 @@
 //! The loader that has the permission goes on with its next command.
 
-ghost use Rattle.std.specs.Prelude.{◌≡◌, ◌⊎◌, IfOk, IfSome, IsSomeAnd, None, OnErr, Some};
-ghost use Rattle.staging.specs.Stages.{AreAtRest, IsStaged, StageStands};
+ghost use Rattle.std.specs.Prelude.{◌≡◌, ◌≤◌, ◌⊎◌, IfOk, IfSome, IsSomeAnd, None, OnErr, Some};
+ghost use Rattle.staging.specs.Stages.{AreAtRest, IsStaged, StageStands, stage_number};
 ghost use Rattle.staging.specs.Traced.{IsTraceChange};
 ghost use Rattle.write_permit.specs.declared.holder.Holder.TheVariants as holders;
 ghost use Rattle.write_permit.specs.Book.{IsBook, shown};
@@ -139,8 +139,9 @@ fn go_on_waiting<K: Naming>(
     requires staged { IsStaged waiting.decision.change ⊎ IsTraceChange waiting.decision.change }
     requires stands { StageStands K.names book.old.plain.server waiting.decision.change book.old.tables waiting.stage }
     ensures ok { IfOk result (OpAnswers who book.old book.new) }
-    // where it waits on, it does so as it was decided
+    // where it waits on, it does so as it was decided, at no earlier stage
     ensures decision { IfOk result (λ step. IfSome book.new.waiting (λ w. w.decision ≡ waiting.decision)) }
+    ensures forward { IfOk result (λ step. IfSome book.new.waiting (λ w. stage_number waiting.stage ≤ stage_number w.stage)) }
     ensures err { OnErr result (HasTakenBack book.old book.new) }
     ensures need { book.new.need ≡ book.old.need }
     ensures book { IsWordBook K.names shared.now.table.shared.table_id shared.now.table.shared.key book.new }

@@ -6,7 +6,7 @@ ghost use Rattle.shared_words.specs.Slots.{IsClear, LookMayBegin};
 ghost use Rattle.progress_words.specs.Needs.{IsBelow};
 ghost use Rattle.progress_words.specs.Tokens.{written_by};
 ghost use Rattle.breakpoints.specs.Patches.{LoadsCounter};
-ghost use Rattle.server_core.specs.ServerState.{is_retired, is_serial_in};
+ghost use Rattle.server_core.specs.ServerState.{is_retired};
 ghost use Rattle.staging.specs.Whose.{KeepsKnown};
 ghost use Rattle.word_permit.specs.declared.book.AreaNeed.{AreaNeed};
 ghost use Rattle.word_permit.specs.Books.{IsWordBook};
@@ -23,7 +23,7 @@ use code_law::{CodeLaw, Naming};
 use literal_areas::{counters_keep_pools, looks_keep_pools};
 use progress_words::{NotYet, later, reached};
 use run_log::Who;
-use server_core::{Cmd, changes_wait_for_releases};
+use server_core::{Cmd, Server, changes_wait_for_releases};
 use shared_words::Shared;
 use staging::{clear_areas_are_releasable, clear_areas_are_releasable_while_settling, release};
 use term_core::{AreaRef, NoMemory};
@@ -70,7 +70,7 @@ fn awaited<K: Naming>(book: &mut WordBook, shared: &Shared<CodeLaw<K>>) -> Optio
     if let Some(need) = still_awaited(book) {
         return Some(need);
     }
-    let serial = *book.plain.server.retired_areas().first()?;
+    let serial = book.plain.server.oldest_retired()?;
     Some(take_need(book, shared, serial))
 }
 
@@ -168,7 +168,7 @@ fn look_for<K: Naming>(
             place,
             word,
         } => {
-            let next = next_behind(book.plain.server.retired_areas(), serial);
+            let next = next_behind(&book.plain.server, serial);
             take_need(book, shared, next);
             Ok(Pumped::Named {
                 serial,
@@ -197,18 +197,16 @@ fn look_through<K: Naming>(book: &mut WordBook, shared: &Shared<CodeLaw<K>>, ser
     scan(shared, &mut book.tables.writer, area, None)
 }
 
-/// The serial behind this one in the list, or the first one.
-fn next_behind(serials: &[u64], serial: u64) -> u64
-    requires { IsTrue (is_serial_in serials.now serial) }
-    ensures { IsTrue (is_serial_in serials.now result) }
+/// The area that was dropped next behind this one, or the one that has waited longest.
+fn next_behind(server: &Server, serial: u64) -> u64
+    requires { IsTrue (is_retired server.now serial) }
+    ensures { IsTrue (is_retired server.now result) }
 {
-    for at in 1..serials.len() {
-        if serials[at - 1] == serial {
-            return serials[at];
-        }
+    if let Some(next) = server.retired_behind(serial) {
+        return next;
     }
-    match serials.first() {
-        Some(first) => *first,
+    match server.oldest_retired() {
+        Some(oldest) => oldest,
         None => serial,
     }
 }

@@ -172,7 +172,7 @@ fn end_wholly<K: Naming>(
     requires holds { book.old.plain.holder ≡ holders.Purging who code.«module» }
     requires code { old_of book.old.plain.server code.«module».0 ≡ Some code.serial }
     requires found { HasLooked code.serial (written_by book.old.tables.writer) scan }
-    ensures ok { IfOk result (LookAnswers who scan book.old book.new) }
+    ensures ok { IfOk result (LookAnswers who code.serial scan book.old book.new) }
     ensures err { OnErr result (HasTakenBack book.old book.new) }
     ensures need { book.new.need ≡ book.old.need }
     ensures book { IsWordBook K.names shared.now.table.shared.table_id shared.now.table.shared.key book.new }

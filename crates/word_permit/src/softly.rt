@@ -1,9 +1,10 @@
 //! Soft purges: the old code goes once a look is clear of it, and stays where a process lingers in it.
 
 ghost use Rattle.std.specs.Prelude.{◌≡◌, IfOk, None, OnErr, Some};
+ghost use Rattle.server_core.specs.declared.command.Cmd.TheVariants as cmds;
 ghost use Rattle.server_core.specs.ServerState.{old_of};
 ghost use Rattle.script_core.specs.declared.script.ScriptCmd.TheVariants as commands;
-ghost use Rattle.shared_words.specs.Views.{newest};
+ghost use Rattle.shared_words.specs.Views.{newest_number};
 ghost use Rattle.progress_words.specs.Tokens.{written_by};
 ghost use Rattle.run_law.specs.Answers.{HasLingering};
 ghost use Rattle.write_permit.specs.declared.holder.Holder.TheVariants as holders;
@@ -84,7 +85,7 @@ fn end_softly<K: Naming>(
     requires next { next_of (shown book.old.plain) who ≡ Some (commands.SoftPurge code.«module») }
     requires code { old_of book.old.plain.server code.«module».0 ≡ Some code.serial }
     requires found { HasLooked code.serial (written_by book.old.tables.writer) scan }
-    ensures ok { IfOk result (LookAnswers who scan book.old book.new) }
+    ensures ok { IfOk result (LookAnswers who code.serial scan book.old book.new) }
     ensures err { OnErr result (HasTakenBack book.old book.new) }
     ensures need { book.new.need ≡ book.old.need }
     ensures book { IsWordBook K.names shared.now.table.shared.table_id shared.now.table.shared.key book.new }
@@ -133,8 +134,9 @@ fn end_lingering<K: Naming>(
     requires holds { book.old.plain.holder ≡ holders.Held who }
     requires next { next_of (shown book.old.plain) who ≡ Some (commands.SoftPurge code.«module») }
     requires code { old_of book.old.plain.server code.«module».0 ≡ Some code.serial }
-    requires lingers { HasLingering (written_by book.old.tables.writer).looks code.serial (newest (written_by book.old.tables.writer).published) linger }
-    ensures ok { IfOk result (EndAnswers who book.old book.new) }
+    requires lingers { HasLingering (written_by book.old.tables.writer).looks code.serial (newest_number (written_by book.old.tables.writer).published) linger }
+    ensures ok { IfOk result (EndAnswers who (cmds.SoftPurge code.«module» (Some linger)) book.old book.new) }
+    ensures tables { book.new.tables ≡ book.old.tables }
     ensures err { OnErr result (HasTakenBack book.old book.new) }
     ensures need { book.new.need ≡ book.old.need }
     ensures book { IsWordBook K.names shared.now.table.shared.table_id shared.now.table.shared.key book.new }

@@ -1,9 +1,9 @@
 //! A decided change of what is traced goes by the phases of a patch: its entry joins before the root is stored, and its command is done once the
 //! breakpoint is switched throughout.
 
-ghost use Rattle.std.specs.Prelude.{◌≡◌, ◌<◌, length, None, IfOk, IfSome, OnErr};
-ghost use Rattle.server_core.specs.Decided.{Fits, made};
-ghost use Rattle.staging.specs.Stages.{StageStands};
+ghost use Rattle.std.specs.Prelude.{◌≡◌, ◌<◌, ◌≤◌, length, None, IfOk, IfSome, OnErr};
+ghost use Rattle.server_core.specs.Decided.{Fits, change_made};
+ghost use Rattle.staging.specs.Stages.{StageStands, stage_number};
 ghost use Rattle.staging.specs.Traced.{IsTraceChange};
 ghost use Rattle.write_permit.specs.declared.holder.Holder.TheVariants as holders;
 ghost use Rattle.write_permit.specs.Agreement.{CanFollowNewest, newest_of};
@@ -41,8 +41,9 @@ pub fn go_on_traced<K: Naming>(
     requires traces { IsTraceChange waiting.decision.change }
     requires stands { StageStands K.names book.old.plain.server waiting.decision.change book.old.tables waiting.stage }
     ensures ok { IfOk result (OpAnswers who book.old book.new) }
-    // where it waits on, it does so as it was decided
+    // where it waits on, it does so as it was decided, at no earlier stage
     ensures decision { IfOk result (λ step. IfSome book.new.waiting (λ w. w.decision ≡ waiting.decision)) }
+    ensures forward { IfOk result (λ step. IfSome book.new.waiting (λ w. stage_number waiting.stage ≤ stage_number w.stage)) }
     ensures err { OnErr result (HasTakenBack book.old book.new) }
     ensures need { book.new.need ≡ book.old.need }
     ensures book { IsWordBook K.names shared.now.table.shared.table_id shared.now.table.shared.key book.new }
@@ -64,15 +65,20 @@ fn switch<K: Naming>(
     who: u32,
     waiting: Waiting,
 ) -> Result<Step, NoMemory>
+    // the tables are those of this table of words, and nothing else waits
     requires tables { HasItsTables K.names shared.now.table.shared.table_id shared.now.table.shared.key book.old }
     requires none { book.old.waiting ≡ None }
     requires look { book.old.look ≡ None }
+    // the loader has the permission, and its next command is this trace, with the words at this stage
     requires holds { book.old.plain.holder ≡ holders.Held who }
     requires decided { IsDecided (shown book.old.plain) who waiting.decision }
     requires traces { IsTraceChange waiting.decision.change }
     requires stands { StageStands K.names book.old.plain.server waiting.decision.change book.old.tables waiting.stage }
+    // an answer, with the trace no less far than before, or want of memory
     ensures ok { IfOk result (SwitchAnswers who waiting.decision book.old book.new) }
+    ensures forward { IfOk result (λ step. IfSome book.new.waiting (λ w. stage_number waiting.stage ≤ stage_number w.stage)) }
     ensures err { OnErr result (HasTakenBack book.old book.new) }
+    // and what waits for something else is as before
     ensures look { book.new.look ≡ None }
     ensures need { book.new.need ≡ book.old.need }
     ensures book { IsWordBook K.names shared.now.table.shared.table_id shared.now.table.shared.key book.new }
@@ -105,7 +111,7 @@ fn switch<K: Naming>(
 /// Makes of a step's answer what it says: a trace that was published is made, and else the entry that joined for it is taken back.
 fn enter(book: &mut WordBook, who: u32, change: Change, stage: Stage, step: Step)
     requires fits { Fits book.old.plain.server change }
-    requires can { CanFollowNewest book.old.plain.modules (made book.old.plain.server change).state (newest_of book.old.plain.journal) }
+    requires can { CanFollowNewest book.old.plain.modules (change_made book.old.plain.server change).state (newest_of book.old.plain.journal) }
     requires joined { 0 < length book.old.plain.journal }
     ensures { IsEntered who change stage book.old book.new step }
 {
@@ -119,7 +125,7 @@ fn enter(book: &mut WordBook, who: u32, change: Change, stage: Stage, step: Step
 /// The trace was published, and its entry is the newest: the server makes it, the module table follows, and the breakpoint is to be switched throughout.
 fn make_trace(book: &mut Book, who: u32, generation: u64, change: Change)
     requires fits { Fits book.old.server change }
-    requires can { CanFollowNewest book.old.modules (made book.old.server change).state (newest_of book.old.journal) }
+    requires can { CanFollowNewest book.old.modules (change_made book.old.server change).state (newest_of book.old.journal) }
     ensures { IsTraceMade who generation change book.old book.new }
 {
     book.server.make(change);

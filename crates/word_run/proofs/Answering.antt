@@ -4,7 +4,7 @@ use mathlib.Core.List.{IsPrefix}
 use Rattle.std.proofs.lemmas.Bool.{eqb-true, eqb-false, false≢true}
 use Rattle.std.proofs.lemmas.Option.{slice_get-get_or}
 use Rattle.inbox.specs.Ends.{Taking}
-use Rattle.run_law.specs.Newcomers.{Spawn}
+use Rattle.run_law.specs.Newcomers.{SpawnedProcess}
 use Rattle.script_core.specs.declared.script.ScriptCmd.{ScriptCmd}
 use Rattle.word_lap.specs.declared.process_run.ProcessRun.{ProcessRun}
 use Rattle.word_run.specs.declared.slice_step.SliceStep.{SliceStep}
@@ -73,5 +73,5 @@ module _ {T : Type 0} {I : Type 0} (began : Option DeskState) (count loaders : �
   pub answers_on : HasAnswers began count loaders s → StaysAnswered s t → HasAnswers began count loaders t
   answers_on h on = record {
     over = subst (λ (n : ℕ). TellsOfLoaders began n count loaders t.over) (sym on.number) (subst (λ (b : Bool). TellsOfLoaders began s.number count loaders b) (sym on.over) h.over);
-    emptied = λ is. subst (λ (x : Taking Spawn). IsPrefix x.told x.taken) (sym on.taker) (h.emptied (sym on.emptied ∙ is));
+    emptied = λ is. subst (λ (x : Taking SpawnedProcess). IsPrefix x.told x.taken) (sym on.taker) (h.emptied (sym on.emptied ∙ is));
   }

@@ -7,7 +7,7 @@ use Rattle.script_core.specs.declared.script.ScriptCmd.{ScriptCmd}
 use Rattle.run_log.specs.declared.logs.Entry.{Entry}
 use Rattle.run_log.specs.declared.logs.Who.TheVariants.{Loader}
 use Rattle.write_permit.specs.Book.{IsPermit}
-use Rattle.write_permit.specs.Permit.{PermitState, Step, at_once_of, counted_in, done_by, done_of, joined, next_of, opening}
+use Rattle.write_permit.specs.Permit.{PermitState, PermitStep, at_once_of, counted_in, done_by, done_of, joined, next_of, command_opening}
 use Rattle.write_permit.proofs.Entered.{counted_grows}
 use Rattle.write_permit.proofs.Kept.{there}
 use Rattle.write_permit.proofs.Logs.{counted_is, done_own}
@@ -17,18 +17,18 @@ use Rattle.word_run.specs.Desks.{GoesOn}
 pub record WasDone (p : PermitState) (who : ℕ) (command : ScriptCmd) (q : PermitState) : Type 0 where
   pub outcome : Outcome
   pub next : next_of p who ≡ Some command
-  pub state : q ≡ record (joined p (Loader who) (opening p.server [] command) outcome) { loaders = counted_in p.loaders who command }
+  pub state : q ≡ record (joined p (Loader who) (command_opening p.server [] command) outcome) { loaders = counted_in p.loaders who command }
 
 done_in : (p : PermitState) (who : ℕ) (command : ScriptCmd) (q : PermitState) (answer : Applied) (o : Option Outcome) → next_of p who ≡ Some command
-    → option_map {T = Step} {U = Step} (λ s. record { state = record (s.state) { loaders = counted_in p.loaders who command }; answer = s.answer }) (option_map (λ x. record { state = joined p (Loader who) (opening p.server [] command) x; answer = x.answer }) o)
+    → option_map {T = PermitStep} {U = PermitStep} (λ s. record { state = record (s.state) { loaders = counted_in p.loaders who command }; answer = s.answer }) (option_map (λ x. record { state = joined p (Loader who) (command_opening p.server [] command) x; answer = x.answer }) o)
     ≡ Some (record { state = q; answer = answer }) → WasDone p who command q
 done_in p who command q answer None next h = absurd (none-some _ h)
-done_in p who command q answer (Some o) next h = record { outcome = o; next = next; state = ap (λ (x : Step). x.state) (sym (same_Some _ _ h)) }
+done_in p who command q answer (Some o) next h = record { outcome = o; next = next; state = ap (λ (x : PermitStep). x.state) (sym (same_Some _ _ h)) }
 
 at_once_in : (p : PermitState) (who : ℕ) (q : PermitState) (answer : Applied) (next : Option ScriptCmd) → next_of p who ≡ next
-    → option_and_then (λ command. done_by p who command (opening p.server [] command)) next ≡ Some (record { state = q; answer = answer }) → (command : ScriptCmd) × WasDone p who command q
+    → option_and_then (λ command. done_by p who command (command_opening p.server [] command)) next ≡ Some (record { state = q; answer = answer }) → (command : ScriptCmd) × WasDone p who command q
 at_once_in p who q answer None is h = absurd (none-some _ h)
-at_once_in p who q answer (Some command) is h = (command, done_in p who command q answer (apply_of p.script.modules p.server (opening p.server [] command)) is h)
+at_once_in p who q answer (Some command) is h = (command, done_in p who command q answer (apply_of p.script.modules p.server (command_opening p.server [] command)) is h)
 
 pub at_once_is : (p : PermitState) (who : ℕ) (q : PermitState) (answer : Applied) → at_once_of p who ≡ Some (record { state = q; answer = answer }) → (command : ScriptCmd) × WasDone p who command q
 at_once_is p who q answer h = at_once_in p who q answer (next_of p who) refl h
@@ -36,7 +36,7 @@ at_once_is p who q answer h = at_once_in p who q answer (next_of p who) refl h
 module _ (p : PermitState) (who : ℕ) (command : ScriptCmd) (q : PermitState) (done : WasDone p who command q) where
   -- its entry
   abbrev pub entry_for : Entry
-  entry_for = record { who = Loader who; cmd = opening p.server [] command; reply = done.outcome.answer.reply; published = done.outcome.answer.published }
+  entry_for = record { who = Loader who; cmd = command_opening p.server [] command; reply = done.outcome.answer.reply; published = done.outcome.answer.published }
 
   pub done_journal : q.journal ≡ p.journal ++ entry_for ∷ []
   done_journal = ap (λ (x : PermitState). x.journal) done.state

@@ -20,7 +20,7 @@ use Rattle.run_log.specs.declared.logs.Snapshot.{Snapshot}
 use Rattle.run_law.specs.Ended.{AreBeginnings}
 use Rattle.run_law.specs.Ends.{IsHistory}
 use Rattle.run_law.specs.Laws.{JournalsAreSaid, RunsAreHistories, TablesTell}
-use Rattle.run_law.specs.Newcomers.{Spawn}
+use Rattle.run_law.specs.Newcomers.{SpawnedProcess}
 use Rattle.run_law.specs.Observing.{HaveWatched}
 use Rattle.inbox.specs.Ends.{Posting, Taking}
 use Rattle.word_permit.specs.Books.{HasItsTables, KeepsRun}
@@ -39,7 +39,7 @@ module _ {T I : Type 0} (names : List Mfa) (s : Script) (table : TableId) (openi
   own_run : IsRun names d.book.plain.script table opening d inboxes seats sight
   own_run = subst (λ (x : Script). IsRun names x table opening d inboxes seats sight) (sym run.script_is) run
 
-  module _ (members : List tokens.Member) (takers : List (Taking Spawn)) (places : List (Vec (Option ProcessRun) Global)) (parted : AreParted seats members takers places) where
+  module _ (members : List tokens.Member) (takers : List (Taking SpawnedProcess)) (places : List (Vec (Option ProcessRun) Global)) (parted : AreParted seats members takers places) where
     pub all_members : AreAllMembers table opening.members members
     all_members = ended.all_members names table opening d inboxes seats sight own_run members takers places parted
 
@@ -57,16 +57,16 @@ module _ {T I : Type 0} (names : List Mfa) (s : Script) (table : TableId) (openi
     writer_token writer is = subst (IsWriterOf table opening) (sym is) has.tables.token
 
     -- the log is a history
-    pub finished : (members : List tokens.Member) (takers : List (Taking Spawn)) (places : List (Vec (Option ProcessRun) Global)) → AreParted seats members takers places
+    pub finished : (members : List tokens.Member) (takers : List (Taking SpawnedProcess)) (places : List (Vec (Option ProcessRun) Global)) → AreParted seats members takers places
         → JournalsAreSaid → TablesTell → TakenHaveRun → OthersHaveNotRun → RunsAreHistories
-        → IsDesk d → IsDone d → AreAllIdle seats → (ends : List (Posting Spawn)) → ends ≡ d.posted → AreSettled ends takers
+        → IsDesk d → IsDone d → AreAllIdle seats → (ends : List (Posting SpawnedProcess)) → ends ≡ d.posted → AreSettled ends takers
         → (writer : writers.Writer) → writer ≡ d.book.tables.writer → (w : WriterView) → HasAllMembers members (written_by writer) w → HaveMarks members w → AreBeginnings members w
         → (logs : List ProcessLog) → AreLogged places (length (spawns_of 0 s.loaders)) logs
         → (shots : List (List Snapshot)) → ((log : RunLog) → log.observers ≡ shots → HaveWatched names s log w.published)
         → (journal : List Entry) → journal ≡ d.book.plain.journal
         → IsHistory names s (record { journal = journal; processes = logs; observers = shots }) w
     finished members takers places parted said tell taken others histories desk done idle ends ends_are settled writer writer_is w closed marked seen logs logged shots watched journal journal_is =
-        let own_settled : AreSettled d.posted takers = subst (λ (xs : List (Posting Spawn)). AreSettled xs takers) ends_are settled in
+        let own_settled : AreSettled d.posted takers = subst (λ (xs : List (Posting SpawnedProcess)). AreSettled xs takers) ends_are settled in
         let own_closed : HasAllMembers members (written_by d.book.tables.writer) w = subst (λ (t : writers.Writer). HasAllMembers members (written_by t) w) writer_is closed in
         let own_logged : AreLogged places (length (spawns_of 0 d.book.plain.script.loaders)) logs = subst (λ (x : Script). AreLogged places (length (spawns_of 0 x.loaders)) logs) (sym run.script_is) logged in
         let log : RunLog = record { journal = d.book.plain.journal; processes = logs; observers = shots } in

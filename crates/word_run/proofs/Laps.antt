@@ -11,11 +11,11 @@ use Rattle.term_core.specs.declared.no_memory.NoMemory.{NoMemory}
 use Rattle.shared_words.specs.declared.opening.Opening.{Opening}
 use Rattle.shared_words.specs.declared.seats.Member as tokens
 use Rattle.shared_words.specs.declared.view.MemberView.{MemberView}
-use Rattle.progress_words.specs.Reports.{Reported}
+use Rattle.progress_words.specs.Reports.{HoldsReported}
 use Rattle.anchors.specs.Holds.{view_of}
 use Rattle.code_law.specs.Served.{IsServed}
 use Rattle.inbox.specs.Ends.{Taking}
-use Rattle.run_law.specs.Newcomers.{Spawn}
+use Rattle.run_law.specs.Newcomers.{SpawnedProcess}
 use Rattle.word_lap.specs.declared.process_run.ProcessRun.{ProcessRun}
 use Rattle.word_lap.specs.LapTurns.{HadTurns, HoldsAsBefore}
 use Rattle.word_lap.specs.Laps.{HasTried}
@@ -30,7 +30,7 @@ use Rattle.word_run.proofs.Waiting.{keeps_token, report_seen}
 -- ---- the member in a lap, with what it keeps
 
 -- an awake member with its processes, over its own view
-pub record IsInLap (functions : List Mfa) (table : TableId) (opening : Opening) (number generation : ℕ) (token : tokens.Member) (taken : List Spawn) (processes : List (Option ProcessRun)) : Type 0 where
+pub record IsInLap (functions : List Mfa) (table : TableId) (opening : Opening) (number generation : ℕ) (token : tokens.Member) (taken : List SpawnedProcess) (processes : List (Option ProcessRun)) : Type 0 where
   pub token_is : IsToken table token
   pub between : IsBetweenTurns (view_of token)
   pub own : token.number ≡ number
@@ -38,7 +38,7 @@ pub record IsInLap (functions : List Mfa) (table : TableId) (opening : Opening) 
   pub learnt : length (view_of token).seen ≡ generation + 1
   pub kept : KeepsProcesses functions opening (view_of token) taken processes
 
-pub in_lap : (functions : List Mfa) (table : TableId) (opening : Opening) (number generation : ℕ) (token : tokens.Member) (taken : List Spawn) (processes : List (Option ProcessRun))
+pub in_lap : (functions : List Mfa) (table : TableId) (opening : Opening) (number generation : ℕ) (token : tokens.Member) (taken : List SpawnedProcess) (processes : List (Option ProcessRun))
     → KeepsBy functions table opening number false generation token taken processes → IsInLap functions table opening number generation token taken processes
 in_lap functions table opening number generation token taken processes h =
     let seated = h.seated in
@@ -52,7 +52,7 @@ in_lap functions table opening number generation token taken processes h =
       kept = subst (λ (m : MemberView). KeepsProcesses functions opening m taken processes) is h.kept;
     }
 
-pub of_lap : (functions : List Mfa) (table : TableId) (opening : Opening) (number generation : ℕ) (token : tokens.Member) (taken : List Spawn) (processes : List (Option ProcessRun))
+pub of_lap : (functions : List Mfa) (table : TableId) (opening : Opening) (number generation : ℕ) (token : tokens.Member) (taken : List SpawnedProcess) (processes : List (Option ProcessRun))
     → IsInLap functions table opening number generation token taken processes → KeepsBy functions table opening number false generation token taken processes
 of_lap functions table opening number generation token taken processes h = record {
   seated = record { own = h.own; before = view_of token; stands = (h.token_is, (h.between, refl)); held = h.held; learnt = h.learnt };
@@ -67,9 +67,9 @@ module _ {T : Type 0} {I : Type 0} (functions : List Mfa) (table : TableId) (ope
   -- ---- arrivals
 
   -- the inbox was taken, and the member reported
-  pub arrived : (mid new : tokens.Member) (generation : ℕ) (taken : List Spawn) (processes : List (Option ProcessRun)) → ReportsKeepProcesses
+  pub arrived : (mid new : tokens.Member) (generation : ℕ) (taken : List SpawnedProcess) (processes : List (Option ProcessRun)) → ReportsKeepProcesses
       → IsToken table mid → mid.number ≡ member.number → KeepsWhatCame functions opening (view_of member) (view_of mid) s.taker.taken taken s.processes.items processes
-      → IsToken table new → new.number ≡ mid.number → IsBetweenTurns (view_of new) → Reported (IsServed functions) (view_of mid) (view_of new) generation
+      → IsToken table new → new.number ≡ mid.number → IsBetweenTurns (view_of new) → HoldsReported (IsServed functions) (view_of mid) (view_of new) generation
       → Keeps functions table opening s → KeepsBy functions table opening s.number false generation new taken processes
   arrived mid new generation taken processes law token same came token' same' between r h =
       let lap = lap_of h in
@@ -84,10 +84,10 @@ module _ {T : Type 0} {I : Type 0} (functions : List Mfa) (table : TableId) (ope
       })
 
   -- the places were lent, and stand as they are given back
-  pub arrives : (mid new : tokens.Member) (generation : ℕ) (taker : Taking Spawn) (lent processes : List (Option ProcessRun)) → ReportsKeepProcesses → taker.number ≡ s.number
+  pub arrives : (mid new : tokens.Member) (generation : ℕ) (taker : Taking SpawnedProcess) (lent processes : List (Option ProcessRun)) → ReportsKeepProcesses → taker.number ≡ s.number
       → lent ≡ s.processes.items → length processes ≡ length s.processes.items
       → IsToken table mid → mid.number ≡ member.number → KeepsWhatCame functions opening (view_of member) (view_of mid) s.taker.taken taker.taken lent processes
-      → IsToken table new → new.number ≡ mid.number → IsBetweenTurns (view_of new) → Reported (IsServed functions) (view_of mid) (view_of new) generation
+      → IsToken table new → new.number ≡ mid.number → IsBetweenTurns (view_of new) → HoldsReported (IsServed functions) (view_of mid) (view_of new) generation
       → (emptied : Bool) → Keeps functions table opening s → Keeps functions table opening (record s { member = Some new; generation = generation; taker = taker; emptied = emptied; processes = with_items s.processes processes })
   arrives mid new generation taker lent processes law inbox lent_is long token same came token' same' between r emptied h = record {
     inbox = inbox;

@@ -8,7 +8,7 @@ use Rattle.std.proofs.lemmas.Option.{none-some}
 use Rattle.run_log.specs.declared.logs.ProcessLog.{ProcessLog}
 use Rattle.run_log.proofs.ListPlaces.{set_here, set_there}
 use Rattle.word_lap.specs.declared.process_run.ProcessRun.{ProcessRun}
-use Rattle.word_run.specs.Finished.{AreLogged, IsLogOf, IsLogged}
+use Rattle.word_run.specs.Finished.{AreLogged, IsLogOfRun, IsLogged}
 use Rattle.word_run.proofs.Joined.{joined_at}
 
 abbrev Home : Type 0
@@ -37,7 +37,7 @@ home_of None p place h = absurd (none-some place h)
 home_of (Some home) p place h = (home, (refl, h))
 
 module _ (places now after : List Home) (number : ℕ) (logs : List ProcessLog) (log : ProcessLog) (home home_after : Home) (h : HaveLogged places now number logs)
-    (at : slice_get now (number % length places) ≡ Some home) (is : IsLogOf (slice_get home.items number) log) (taken : home_after.items ≡ slice_set home.items number None) (after_is : after ≡ slice_set now (number % length places) home_after) where
+    (at : slice_get now (number % length places) ≡ Some home) (is : IsLogOfRun (slice_get home.items number) log) (taken : home_after.items ≡ slice_set home.items number None) (after_is : after ≡ slice_set now (number % length places) home_after) where
   abbrev own : ℕ
   own = number % length places
 
@@ -77,7 +77,7 @@ module _ (places now after : List Home) (number : ℕ) (logs : List ProcessLog) 
 
 -- so it is where so many homes there are
 pub logged_on : (places now after : List Home) (homes number : ℕ) (logs logs_after : List ProcessLog) (log : ProcessLog) (home home_after : Home) → homes ≡ length places → HaveLogged places now number logs
-    → slice_get now (number % homes) ≡ Some home → IsLogOf (slice_get home.items number) log → home_after.items ≡ slice_set home.items number None → after ≡ slice_set now (number % homes) home_after → logs_after ≡ logs ++ log ∷ []
+    → slice_get now (number % homes) ≡ Some home → IsLogOfRun (slice_get home.items number) log → home_after.items ≡ slice_set home.items number None → after ≡ slice_set now (number % homes) home_after → logs_after ≡ logs ++ log ∷ []
     → HaveLogged places after (number + 1) logs_after
 logged_on places now after homes number logs logs_after log home home_after many h at is taken after_is logs_are =
     subst (HaveLogged places after (number + 1)) (sym logs_are)

@@ -12,13 +12,13 @@ use Rattle.script_core.specs.Processes.{spawn_number}
 use Rattle.run_log.specs.declared.logs.Entry.{Entry}
 use Rattle.run_log.specs.declared.logs.Who.TheVariants.{Runtime}
 use Rattle.run_log.specs.Journal.{published_count}
-use Rattle.run_law.specs.Newcomers.{Spawn}
+use Rattle.run_law.specs.Newcomers.{SpawnedProcess}
 use Rattle.inbox.specs.Ends.{Posting}
 use Rattle.write_permit.specs.declared.answers.Pumped.{Pumped as OfAreas}
 use Rattle.write_permit.specs.declared.answers.Pumped.TheVariants as plain
 use Rattle.write_permit.specs.declared.holder.Holder.{Holder}
 use Rattle.write_permit.specs.Book.{IsPermit, shown}
-use Rattle.write_permit.specs.Permit.{PermitState, PumpStep, Step, at_once_of, done_of, joined, next_of}
+use Rattle.write_permit.specs.Permit.{PermitState, PumpStep, PermitStep, at_once_of, done_of, joined, next_of}
 use Rattle.word_permit.specs.declared.answers.Pumped.{Pumped}
 use Rattle.word_permit.specs.declared.answers.Pumped.TheVariants as pumps
 use Rattle.word_permit.specs.declared.book.WordBook.{WordBook}
@@ -32,16 +32,16 @@ use Rattle.word_run.proofs.Posted.{posted_on}
 use Rattle.word_run.proofs.Spawning.{homes_kept, posted_more, spawn_made}
 
 -- entries joined, and nothing was posted
-makes_quiet : (p q : PermitState) (ends : List (Posting Spawn)) → IsPermit p → GoesOn p q → MakesOn p q ends ends
+makes_quiet : (p q : PermitState) (ends : List (Posting SpawnedProcess)) → IsPermit p → GoesOn p q → MakesOn p q ends ends
 makes_quiet p q ends permit goes = record { goes = goes; posted = posted_on p q ends permit goes; homes = refl }
 
-makes_same : (p q : PermitState) (ends : List (Posting Spawn)) → IsPermit p → q ≡ p → MakesOn p q ends ends
+makes_same : (p q : PermitState) (ends : List (Posting SpawnedProcess)) → IsPermit p → q ≡ p → MakesOn p q ends ends
 makes_same p q ends permit is = makes_quiet p q ends permit (goes_same p q is)
 
-pub makes_holder : (p q : PermitState) (h : Holder) (ends : List (Posting Spawn)) → IsPermit p → q ≡ record p { holder = h } → MakesOn p q ends ends
+pub makes_holder : (p q : PermitState) (h : Holder) (ends : List (Posting SpawnedProcess)) → IsPermit p → q ≡ record p { holder = h } → MakesOn p q ends ends
 makes_holder p q h ends permit is = makes_quiet p q ends permit (goes_seized p q h is)
 
-pub makes_both : (p q r : PermitState) (a b c : List (Posting Spawn)) → MakesOn p q a b → MakesOn q r b c → MakesOn p r a c
+pub makes_both : (p q r : PermitState) (a b c : List (Posting SpawnedProcess)) → MakesOn p q a b → MakesOn q r b c → MakesOn p r a c
 makes_both p q r a b c first second = record {
   goes = goes_through p q r first.goes second.goes;
   posted = λ h. second.posted (first.posted h);
@@ -50,11 +50,11 @@ makes_both p q r a b c first second = record {
 
 -- ---- a command that needs no permission
 
-pub makes_at_once : (p q : PermitState) (who : ℕ) (answer : Applied) (ends : List (Posting Spawn)) → IsPermit p → at_once_of p who ≡ Some (record { state = q; answer = answer }) → MakesOn p q ends ends
+pub makes_at_once : (p q : PermitState) (who : ℕ) (answer : Applied) (ends : List (Posting SpawnedProcess)) → IsPermit p → at_once_of p who ≡ Some (record { state = q; answer = answer }) → MakesOn p q ends ends
 makes_at_once p q who answer ends permit made = let done = at_once_is p who q answer made in makes_quiet p q ends permit (done_goes p who done.0 q done.1)
 
-module _ (p q : PermitState) (who : ℕ) (target : Mfa) (args : List PlainTerm) (answer : Applied) (process published : ℕ) (ends after : List (Posting Spawn)) (some : 0 < length ends) (permit : IsPermit p) (next : next_of p who ≡ Some (script.Spawn target args)) (made : at_once_of p who ≡ Some (record { state = q; answer = answer })) (number_is : process ≡ spawn_number p.script.loaders who (done_of p.loaders who)) (published_is : published ≡ published_count p.journal) where
-  abbrev spawn : Spawn
+module _ (p q : PermitState) (who : ℕ) (target : Mfa) (args : List PlainTerm) (answer : Applied) (process published : ℕ) (ends after : List (Posting SpawnedProcess)) (some : 0 < length ends) (permit : IsPermit p) (next : next_of p who ≡ Some (script.Spawn target args)) (made : at_once_of p who ≡ Some (record { state = q; answer = answer })) (number_is : process ≡ spawn_number p.script.loaders who (done_of p.loaders who)) (published_is : published ≡ published_count p.journal) where
+  abbrev spawn : SpawnedProcess
   spawn = record { number = process; target = target; args = args; published = published }
 
   -- and its process is posted home
@@ -74,14 +74,14 @@ module _ (p q : PermitState) (who : ℕ) (target : Mfa) (args : List PlainTerm) 
 
 -- ---- a command that needs the permission
 
-pub makes_grown : (b c : WordBook) (ends : List (Posting Spawn)) → IsPermit (shown b.plain) → HasGrown b.plain c.plain → MakesOn (shown b.plain) (shown c.plain) ends ends
+pub makes_grown : (b c : WordBook) (ends : List (Posting SpawnedProcess)) → IsPermit (shown b.plain) → HasGrown b.plain c.plain → MakesOn (shown b.plain) (shown c.plain) ends ends
 makes_grown b c ends permit grown = makes_quiet (shown b.plain) (shown c.plain) ends permit (goes_grown b.plain c.plain grown)
 
 -- ---- releases
 
-module _ (p q : PermitState) (serial : ℕ) (answer : OfAreas) (permit : IsPermit p) (ends : List (Posting Spawn)) where
+module _ (p q : PermitState) (serial : ℕ) (answer : OfAreas) (permit : IsPermit p) (ends : List (Posting SpawnedProcess)) where
   joined_by : (o : Option Outcome)
-      → option_map {T = Step} {U = PumpStep} (λ s. record { state = s.state; answer = plain.Released serial }) (option_map (λ x. record { state = joined p Runtime (cmds.Release serial) x; answer = x.answer }) o)
+      → option_map {T = PermitStep} {U = PumpStep} (λ s. record { state = s.state; answer = plain.Released serial }) (option_map (λ x. record { state = joined p Runtime (cmds.Release serial) x; answer = x.answer }) o)
       ≡ Some (record { state = q; answer = answer }) → MakesOn p q ends ends
   joined_by None h = absurd (none-some _ h)
   joined_by (Some o) h =
@@ -94,7 +94,7 @@ module _ (p q : PermitState) (serial : ℕ) (answer : OfAreas) (permit : IsPermi
         done = λ loader. omega (arith, ap (λ (x : PermitState). done_of x.loaders loader) is);
       })
 
-module _ (b c : WordBook) (permit : IsPermit (shown b.plain)) (ends : List (Posting Spawn)) where
+module _ (b c : WordBook) (permit : IsPermit (shown b.plain)) (ends : List (Posting SpawnedProcess)) where
   released : (step : Pumped) → PumpAnswers b c step → MakesOn (shown b.plain) (shown c.plain) ends ends
   released (pumps.Released serial) h = joined_by (shown b.plain) (shown c.plain) serial _ permit ends (apply_of b.plain.script.modules b.plain.server (cmds.Release serial)) h.step
   released (pumps.NotYet answer) h = makes_same (shown b.plain) (shown c.plain) ends permit h.0.same

@@ -36,7 +36,7 @@ use Rattle.run_law.specs.Answers.{AreAnswersKept}
 use Rattle.run_law.specs.Ended.{AreBeginnings, HasNotRun, HasRun, HaveCome, HaveRun, IsMemberOf}
 use Rattle.run_law.specs.Ends.{HasItsRest, IsHistory, IsOver}
 use Rattle.run_law.specs.Laws.{AreLearnt, JournalsAreSaid, RunsAreHistories, TablesTell}
-use Rattle.run_law.specs.Newcomers.{IsTaken, Spawn, spawn_for}
+use Rattle.run_law.specs.Newcomers.{IsTaken, SpawnedProcess, spawn_for}
 use Rattle.run_law.specs.Observing.{HaveWatched}
 use Rattle.run_law.specs.Published.{ArePublished, IsJournal}
 use Rattle.inbox.specs.Ends.{Taking}
@@ -133,7 +133,7 @@ stood_ran names journal known shown number line process processes stood stands l
 -- ---- a run
 
 module _ {T I : Type 0} (names : List Mfa) (table : TableId) (opening : Opening) (d : DeskState) (inboxes : List ℕ) (seats : List (Seat T I)) (sight : Sight)
-    (run : IsRun names d.book.plain.script table opening d inboxes seats sight) (members : List tokens.Member) (takers : List (Taking Spawn)) (places : List (Vec (Option ProcessRun) Global)) (parted : AreParted seats members takers places) where
+    (run : IsRun names d.book.plain.script table opening d inboxes seats sight) (members : List tokens.Member) (takers : List (Taking SpawnedProcess)) (places : List (Vec (Option ProcessRun) Global)) (parted : AreParted seats members takers places) where
   abbrev p : PermitState
   p = shown d.book.plain
 
@@ -184,14 +184,14 @@ module _ {T I : Type 0} (names : List Mfa) (table : TableId) (opening : Opening)
 
   module _ (desk : IsDesk d) (settled : AreSettled d.posted takers) where
     -- what was taken was spawned
-    taken_spawned : (k : ℕ) (x : HasSeat k) (spawn : Spawn) → Among x.seat.scheduler.taker.taken spawn → WasSpawned p spawn
+    taken_spawned : (k : ℕ) (x : HasSeat k) (spawn : SpawnedProcess) → Among x.seat.scheduler.taker.taken spawn → WasSpawned p spawn
     taken_spawned k x spawn among =
         let low = slice_get_within seats k x.seat x.at in
         let end = get_within d.posted k (omega (arith, low, run.homes)) in
         let put : (end.0).put ≡ x.seat.scheduler.taker.taken = settled k end.0 x.seat.scheduler.taker end.1 x.taker_at in
-        desk.posted.each k end.0 end.1 spawn (among.0, ap (λ (xs : List Spawn). slice_get xs among.0) put ∙ among.1)
+        desk.posted.each k end.0 end.1 spawn (among.0, ap (λ (xs : List SpawnedProcess). slice_get xs among.0) put ∙ among.1)
 
-    taken_one : (k : ℕ) (x : HasSeat k) (number : ℕ) (line : SpawnLine) → slice_get (spawns_of 0 s.loaders) number ≡ Some line → (spawn : Spawn) → Among x.seat.scheduler.taker.taken spawn → spawn.number ≡ number → spawn ≡ spawn_for p.journal number line
+    taken_one : (k : ℕ) (x : HasSeat k) (number : ℕ) (line : SpawnLine) → slice_get (spawns_of 0 s.loaders) number ≡ Some line → (spawn : SpawnedProcess) → Among x.seat.scheduler.taker.taken spawn → spawn.number ≡ number → spawn ≡ spawn_for p.journal number line
     taken_one k x number line at spawn among same =
         let from = taken_spawned k x spawn among in
         let lines : from.line ≡ line = same_Some from.line line (sym from.at ∙ ap (slice_get (spawns_of 0 s.loaders)) same ∙ at) in

@@ -8,7 +8,7 @@ use Rattle.std.proofs.lemmas.Option.{none-some, same_Some, slice_get_within}
 use Rattle.shared_words.specs.declared.seats.Member as tokens
 use Rattle.term_core.proofs.Places.{slice_get-append, slice_get-append_one}
 use Rattle.run_log.proofs.ListPlaces.{get_within}
-use Rattle.run_law.specs.Newcomers.{Spawn}
+use Rattle.run_law.specs.Newcomers.{SpawnedProcess}
 use Rattle.inbox.specs.Ends.{IsSettled, Posting, Taking}
 use Rattle.word_lap.specs.declared.process_run.ProcessRun.{ProcessRun}
 use Rattle.word_run.specs.declared.seat.Seat.{Seat}
@@ -19,7 +19,7 @@ use Rattle.word_run.proofs.Joined.{dropped_next, joined_at, length_joined}
 
 module _ {T I : Type 0} where
   -- none at first
-  pub none_parted : (seats : List (Seat T I)) (members : List tokens.Member) (takers : List (Taking Spawn)) (places : List (Vec (Option ProcessRun) Global)) → seats ≡ [] → members ≡ [] → takers ≡ [] → places ≡ [] → AreParted seats members takers places
+  pub none_parted : (seats : List (Seat T I)) (members : List tokens.Member) (takers : List (Taking SpawnedProcess)) (places : List (Vec (Option ProcessRun) Global)) → seats ≡ [] → members ≡ [] → takers ≡ [] → places ≡ [] → AreParted seats members takers places
   none_parted seats members takers places no_seat no_member no_taker no_place = record {
     members_are = ap length no_member ∙ sym (ap length no_seat);
     takers_are = ap length no_taker ∙ sym (ap length no_seat);
@@ -27,7 +27,7 @@ module _ {T I : Type 0} where
     each = λ k seat at. absurd (none-some seat (ap (λ (xs : List (Seat T I)). slice_get xs k) (sym no_seat) ∙ at));
   }
 
-  module _ (seats : List (Seat T I)) (seat : Seat T I) (members members_after : List tokens.Member) (takers takers_after : List (Taking Spawn)) (places places_after : List (Vec (Option ProcessRun) Global)) (h : AreParted seats members takers places) (a : AddsParts seat members members_after takers takers_after places places_after) where
+  module _ (seats : List (Seat T I)) (seat : Seat T I) (members members_after : List tokens.Member) (takers takers_after : List (Taking SpawnedProcess)) (places places_after : List (Vec (Option ProcessRun) Global)) (h : AreParted seats members takers places) (a : AddsParts seat members members_after takers takers_after places places_after) where
     parts_from : (k : ℕ) (x : Seat T I) → (slice_get seats k ≡ Some x) ⊎ ((k ≡ length seats) × (seat ≡ x)) → HasParts x (slice_get (members ++ a.member ∷ []) k) (slice_get (takers ++ seat.scheduler.taker ∷ []) k) (slice_get (places ++ seat.scheduler.processes ∷ []) k)
     parts_from k x (inl at) =
         let low = slice_get_within seats k x at in
@@ -59,24 +59,24 @@ module _ {T I : Type 0} where
     pub parted_next : AreParted (seats ++ seat ∷ []) members_after takers_after places_after
     parted_next =
         subst (λ (ms : List tokens.Member). AreParted (seats ++ seat ∷ []) ms takers_after places_after) (sym a.member_joins)
-        (subst (λ (ts : List (Taking Spawn)). AreParted (seats ++ seat ∷ []) (members ++ a.member ∷ []) ts places_after) (sym a.taker_joins)
+        (subst (λ (ts : List (Taking SpawnedProcess)). AreParted (seats ++ seat ∷ []) (members ++ a.member ∷ []) ts places_after) (sym a.taker_joins)
         (subst (λ (ps : List (Vec (Option ProcessRun) Global)). AreParted (seats ++ seat ∷ []) (members ++ a.member ∷ []) (takers ++ seat.scheduler.taker ∷ []) ps) (sym a.place_joins) parted_more))
 
   -- the ends that take have their numbers
-  pub takers_numbered : (seats : List (Seat T I)) (members : List tokens.Member) (takers : List (Taking Spawn)) (places : List (Vec (Option ProcessRun) Global)) → AreParted seats members takers places → HaveTakers seats → AreTakers takers
+  pub takers_numbered : (seats : List (Seat T I)) (members : List tokens.Member) (takers : List (Taking SpawnedProcess)) (places : List (Vec (Option ProcessRun) Global)) → AreParted seats members takers places → HaveTakers seats → AreTakers takers
   takers_numbered seats members takers places parted own home taker at =
       let there = get_within seats home (omega (arith, slice_get_within takers home taker at, parted.takers_are)) in
-      ap (λ (t : Taking Spawn). t.number) (same_Some taker there.0.scheduler.taker (sym at ∙ (parted.each home there.0 there.1).taker_is)) ∙ own home there.0 there.1
+      ap (λ (t : Taking SpawnedProcess). t.number) (same_Some taker there.0.scheduler.taker (sym at ∙ (parted.each home there.0 there.1).taker_is)) ∙ own home there.0 there.1
 
 -- ---- what was posted
 
 -- the first so many ends came together, and nothing was left; these are the others
-pub record HaveSettled (ends left_ends : List (Posting Spawn)) (takers left_takers : List (Taking Spawn)) (count : ℕ) : Type 0 where
+pub record HaveSettled (ends left_ends : List (Posting SpawnedProcess)) (takers left_takers : List (Taking SpawnedProcess)) (count : ℕ) : Type 0 where
   pub ends_are : left_ends ≡ drop count ends
   pub takers_are : left_takers ≡ drop count takers
-  pub settled : (k : ℕ) (end : Posting Spawn) (taker : Taking Spawn) → k < count → slice_get ends k ≡ Some end → slice_get takers k ≡ Some taker → end.put ≡ taker.taken
+  pub settled : (k : ℕ) (end : Posting SpawnedProcess) (taker : Taking SpawnedProcess) → k < count → slice_get ends k ≡ Some end → slice_get takers k ≡ Some taker → end.put ≡ taker.taken
 
-pub none_settled : (ends left_ends : List (Posting Spawn)) (takers left_takers : List (Taking Spawn)) → left_ends ≡ ends → left_takers ≡ takers → HaveSettled ends left_ends takers left_takers 0
+pub none_settled : (ends left_ends : List (Posting SpawnedProcess)) (takers left_takers : List (Taking SpawnedProcess)) → left_ends ≡ ends → left_takers ≡ takers → HaveSettled ends left_ends takers left_takers 0
 none_settled ends left_ends takers left_takers end_is taker_is = record {
   ends_are = end_is;
   takers_are = taker_is;
@@ -88,10 +88,10 @@ none_left [] h = refl
 none_left (x ∷ left) h = absurd (omega (arith, h))
 
 -- nothing is left
-pub all_taken : (put taken : List Spawn) (count : ℕ) → count ≡ 0 → IsSettled put taken count → put ≡ taken
-all_taken put taken count none h = h.whole ∙ ap (λ (xs : List Spawn). taken ++ xs) (none_left h.left (h.counted ∙ none)) ∙ append-nil taken
+pub all_taken : (put taken : List SpawnedProcess) (count : ℕ) → count ≡ 0 → IsSettled put taken count → put ≡ taken
+all_taken put taken count none h = h.whole ∙ ap (λ (xs : List SpawnedProcess). taken ++ xs) (none_left h.left (h.counted ∙ none)) ∙ append-nil taken
 
-module _ (ends left_ends ends_after : List (Posting Spawn)) (takers left_takers takers_after : List (Taking Spawn)) (count : ℕ) (end : Posting Spawn) (taker : Taking Spawn) (h : HaveSettled ends left_ends takers left_takers count)
+module _ (ends left_ends ends_after : List (Posting SpawnedProcess)) (takers left_takers takers_after : List (Taking SpawnedProcess)) (count : ℕ) (end : Posting SpawnedProcess) (taker : Taking SpawnedProcess) (h : HaveSettled ends left_ends takers left_takers count)
     (end_next : left_ends ≡ end ∷ ends_after) (taker_next : left_takers ≡ taker ∷ takers_after) where
   -- the next end that posts, and the next that takes, stand at this place
   pub end_there : slice_get ends count ≡ Some end
@@ -100,11 +100,11 @@ module _ (ends left_ends ends_after : List (Posting Spawn)) (takers left_takers 
   pub taker_there : slice_get takers count ≡ Some taker
   taker_there = (dropped_next takers takers_after taker count (sym h.takers_are ∙ taker_next)).0
 
-  settled_here : end.put ≡ taker.taken → (k : ℕ) (x : Posting Spawn) (y : Taking Spawn) → k ≡ count → slice_get ends k ≡ Some x → slice_get takers k ≡ Some y → x.put ≡ y.taken
+  settled_here : end.put ≡ taker.taken → (k : ℕ) (x : Posting SpawnedProcess) (y : Taking SpawnedProcess) → k ≡ count → slice_get ends k ≡ Some x → slice_get takers k ≡ Some y → x.put ≡ y.taken
   settled_here same k x y last x_at y_at =
       let x_is : end ≡ x = same_Some end x (sym end_there ∙ ap (slice_get ends) (sym last) ∙ x_at) in
       let y_is : taker ≡ y = same_Some taker y (sym taker_there ∙ ap (slice_get takers) (sym last) ∙ y_at) in
-      ap (λ (p : Posting Spawn). p.put) (sym x_is) ∙ same ∙ ap (λ (t : Taking Spawn). t.taken) y_is
+      ap (λ (p : Posting SpawnedProcess). p.put) (sym x_is) ∙ same ∙ ap (λ (t : Taking SpawnedProcess). t.taken) y_is
 
   settled_more : end.put ≡ taker.taken → HaveSettled ends ends_after takers takers_after (suc count)
   settled_more same = record {
@@ -115,7 +115,7 @@ module _ (ends left_ends ends_after : List (Posting Spawn)) (takers left_takers 
   }
 
 -- one more inbox
-pub settled_next : {X : Type 0} (first : List X) (inbox : X) (ends left_ends ends_after : List (Posting Spawn)) (takers left_takers takers_after : List (Taking Spawn)) (end : Posting Spawn) (taker : Taking Spawn)
+pub settled_next : {X : Type 0} (first : List X) (inbox : X) (ends left_ends ends_after : List (Posting SpawnedProcess)) (takers left_takers takers_after : List (Taking SpawnedProcess)) (end : Posting SpawnedProcess) (taker : Taking SpawnedProcess)
     → HaveSettled ends left_ends takers left_takers (length first) → left_ends ≡ end ∷ ends_after → left_takers ≡ taker ∷ takers_after → end.put ≡ taker.taken
     → HaveSettled ends ends_after takers takers_after (length (first ++ inbox ∷ []))
 settled_next first inbox ends left_ends ends_after takers left_takers takers_after end taker h end_next taker_next same =
@@ -123,7 +123,7 @@ settled_next first inbox ends left_ends ends_after takers left_takers takers_aft
     (settled_more ends left_ends ends_after takers left_takers takers_after (length first) end taker h end_next taker_next same)
 
 -- all are
-pub all_settled : (ends left_ends : List (Posting Spawn)) (takers left_takers : List (Taking Spawn)) (count : ℕ) → HaveSettled ends left_ends takers left_takers count → length ends ≤ count → AreSettled ends takers
+pub all_settled : (ends left_ends : List (Posting SpawnedProcess)) (takers left_takers : List (Taking SpawnedProcess)) (count : ℕ) → HaveSettled ends left_ends takers left_takers count → length ends ≤ count → AreSettled ends takers
 all_settled ends left_ends takers left_takers count h past = λ k end taker end_at taker_at.
     let low = slice_get_within ends k end end_at in
     h.settled k end taker (omega (arith, low, past)) end_at taker_at

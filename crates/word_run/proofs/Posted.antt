@@ -7,14 +7,14 @@ use Rattle.run_log.specs.declared.logs.Entry.{Entry}
 use Rattle.run_log.specs.Journal.{published_before}
 use Rattle.run_log.specs.Legal.{commands_in, commands_of}
 use Rattle.run_log.proofs.Journals.{before_kept, commands_more}
-use Rattle.run_law.specs.Newcomers.{Spawn}
+use Rattle.run_law.specs.Newcomers.{SpawnedProcess}
 use Rattle.inbox.specs.Ends.{Posting}
 use Rattle.write_permit.specs.Book.{IsPermit}
 use Rattle.write_permit.specs.Permit.{PermitState, done_of, entered_by}
 use Rattle.write_permit.proofs.Entered.{entered_grows}
 use Rattle.word_run.specs.Desks.{ArePosted, GoesOn, WasSpawned}
 
-abbrev spawn_with : ℕ → SpawnLine → ℕ → Spawn
+abbrev spawn_with : ℕ → SpawnLine → ℕ → SpawnedProcess
 spawn_with number line published = record { number = number; target = line.target; args = line.args; published = published }
 
 -- a loader's entries stay the first ones
@@ -35,7 +35,7 @@ done_within p loader place permit h =
     let entered = done_of (entered_by p.holder p.loaders) loader in
     omega (arith, h, entered_grows p.holder p.loaders loader, permit.log.within loader, ap length (permit.log.in_order loader), length-take entered (commands_of p.script loader))
 
-spawned_on : (p q : PermitState) (spawn : Spawn) → IsPermit p → GoesOn p q → WasSpawned p spawn → WasSpawned q spawn
+spawned_on : (p q : PermitState) (spawn : SpawnedProcess) → IsPermit p → GoesOn p q → WasSpawned p spawn → WasSpawned q spawn
 spawned_on p q spawn permit goes h =
     let line : SpawnLine = h.line in
     let same : published_before line.loader line.place q.journal ≡ published_before line.loader line.place p.journal =
@@ -47,7 +47,7 @@ spawned_on p q spawn permit goes h =
       is = h.is ∙ ap (λ n. spawn_with spawn.number line n) (sym same);
     }
 
-pub posted_on : (p q : PermitState) (posted : List (Posting Spawn)) → IsPermit p → GoesOn p q → ArePosted p posted → ArePosted q posted
+pub posted_on : (p q : PermitState) (posted : List (Posting SpawnedProcess)) → IsPermit p → GoesOn p q → ArePosted p posted → ArePosted q posted
 posted_on p q posted permit goes h = record {
   number = h.number;
   each = λ home end at spawn among. spawned_on p q spawn permit goes (h.each home end at spawn among);

@@ -3,7 +3,7 @@ use Rattle.std.proofs.Common.{◌≡◌, ℕ, Bool, List, length, Option, None, 
 use Rattle.atomic_table.specs.Seated.{TableId}
 use Rattle.term_core.specs.declared.atom.Mfa.{Mfa}
 use Rattle.shared_words.specs.declared.opening.Opening.{Opening}
-use Rattle.run_law.specs.Newcomers.{Spawn}
+use Rattle.run_law.specs.Newcomers.{SpawnedProcess}
 use Rattle.inbox.specs.Ends.{Posting}
 use Rattle.write_permit.specs.Book.{shown}
 use Rattle.word_run.specs.declared.scheduler.Scheduler.{Scheduler}
@@ -24,10 +24,10 @@ slices_both : (a b c : DeskState) → AddsInSlices a b → AddsInSlices b c → 
 slices_both a b c first second = record { goes = goes_through (shown a.book.plain) (shown b.book.plain) (shown c.book.plain) first.goes second.goes; homes = second.homes ∙ first.homes }
 
 -- the ends were lent, and stand as they are given back
-pub makes_lent : (d e : DeskState) (lent after : List (Posting Spawn)) → lent ≡ d.posted → e.posted ≡ after → MakesOn (shown d.book.plain) (shown e.book.plain) lent after
+pub makes_lent : (d e : DeskState) (lent after : List (Posting SpawnedProcess)) → lent ≡ d.posted → e.posted ≡ after → MakesOn (shown d.book.plain) (shown e.book.plain) lent after
     → MakesOn (shown d.book.plain) (shown e.book.plain) d.posted e.posted
 makes_lent d e lent after lent_is after_is h =
-    subst (λ (xs : List (Posting Spawn)). MakesOn (shown d.book.plain) (shown e.book.plain) d.posted xs) (sym after_is) (subst (λ (xs : List (Posting Spawn)). MakesOn (shown d.book.plain) (shown e.book.plain) xs after) lent_is h)
+    subst (λ (xs : List (Posting SpawnedProcess)). MakesOn (shown d.book.plain) (shown e.book.plain) d.posted xs) (sym after_is) (subst (λ (xs : List (Posting SpawnedProcess)). MakesOn (shown d.book.plain) (shown e.book.plain) xs after) lent_is h)
 
 -- since the round began it is so still
 pub slice_on : (began : Option DeskState) (d e : DeskState) → IsSliceOf began d → AddsInSlices d e → IsSliceOf began e

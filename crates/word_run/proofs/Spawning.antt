@@ -17,10 +17,10 @@ use Rattle.run_log.specs.Journal.{ends_command, ends_one, entries_of, is_of, pub
 use Rattle.run_log.specs.Legal.{commands_in, commands_of, ended_by}
 use Rattle.run_log.proofs.Journals.{count-cons, ended_length}
 use Rattle.run_steps.proofs.Ends.{spawn_line}
-use Rattle.run_law.specs.Newcomers.{Spawn}
+use Rattle.run_law.specs.Newcomers.{SpawnedProcess}
 use Rattle.inbox.specs.Ends.{Posting, posted}
 use Rattle.write_permit.specs.Book.{IsPermit}
-use Rattle.write_permit.specs.Permit.{PermitState, at_once_of, done_of, entered_by, next_of, opening}
+use Rattle.write_permit.specs.Permit.{PermitState, at_once_of, done_of, entered_by, next_of, command_opening}
 use Rattle.write_permit.proofs.Entered.{entered_done}
 use Rattle.write_permit.proofs.Kept.{holder_apart}
 use Rattle.literal_areas.proofs.Uses.{set_here, set_there}
@@ -69,10 +69,10 @@ counted_so p who target args permit next =
 
 own_entry : (who : ℕ) (command : ScriptCmd) (target : Mfa) (args : List PlainTerm) (p q : PermitState) (done : WasDone p who command q) → command ≡ script.Spawn target args
     → ends_command who (entry_for p who command q done) ≡ true
-own_entry who command target args p q done is = ap (λ c. (who == who) && ends_one (opening p.server [] c)) is ∙ ap (λ b. b && true) (eq-eqb who who refl)
+own_entry who command target args p q done is = ap (λ c. (who == who) && ends_one (command_opening p.server [] c)) is ∙ ap (λ b. b && true) (eq-eqb who who refl)
 
 module _ (p q : PermitState) (who : ℕ) (target : Mfa) (args : List PlainTerm) (answer : Applied) (process published : ℕ) (permit : IsPermit p) (next : next_of p who ≡ Some (script.Spawn target args)) (made : at_once_of p who ≡ Some (record { state = q; answer = answer })) (number_is : process ≡ spawn_number p.script.loaders who (done_of p.loaders who)) (published_is : published ≡ published_count p.journal) where
-  abbrev spawn : Spawn
+  abbrev spawn : SpawnedProcess
   spawn = record { number = process; target = target; args = args; published = published }
 
   pub spawn_made : WasSpawned q spawn
@@ -90,7 +90,7 @@ module _ (p q : PermitState) (who : ℕ) (target : Mfa) (args : List PlainTerm) 
         is = ap published_as (published_is ∙ sym before);
       }
     where
-      published_as : ℕ → Spawn
+      published_as : ℕ → SpawnedProcess
       published_as n = record { number = process; target = target; args = args; published = n }
 
 -- ---- its home
@@ -106,8 +106,8 @@ home_there [] k h = absurd (omega (arith, h))
 home_there (x ∷ xs) zero h = (x, refl)
 home_there (x ∷ xs) (suc k) h = home_there xs k (omega (arith, h))
 
-module _ (ends : List (Posting Spawn)) (spawn : Spawn) (some : 0 < length ends) where
-  pub is_there : (end : Posting Spawn) × (slice_get ends (spawn.number % length ends) ≡ Some end)
+module _ (ends : List (Posting SpawnedProcess)) (spawn : SpawnedProcess) (some : 0 < length ends) where
+  pub is_there : (end : Posting SpawnedProcess) × (slice_get ends (spawn.number % length ends) ≡ Some end)
   is_there = home_there ends (spawn.number % length ends) (mod_below spawn.number (length ends) some)
 
   pub home_is : posted_home ends spawn ≡ slice_set ends (spawn.number % length ends) (posted is_there.0 spawn)
@@ -116,28 +116,28 @@ module _ (ends : List (Posting Spawn)) (spawn : Spawn) (some : 0 < length ends) 
   pub homes_kept : length (posted_home ends spawn) ≡ length ends
   homes_kept = ap length home_is ∙ length-set ends (spawn.number % length ends) (posted is_there.0 spawn)
 
-module _ (q : PermitState) (ends : List (Posting Spawn)) (spawn : Spawn) (some : 0 < length ends) (h : ArePosted q ends) (was : WasSpawned q spawn) where
+module _ (q : PermitState) (ends : List (Posting SpawnedProcess)) (spawn : SpawnedProcess) (some : 0 < length ends) (h : ArePosted q ends) (was : WasSpawned q spawn) where
   abbrev home : ℕ
   home = spawn.number % length ends
 
-  abbrev there : (end : Posting Spawn) × (slice_get ends (spawn.number % length ends) ≡ Some end)
+  abbrev there : (end : Posting SpawnedProcess) × (slice_get ends (spawn.number % length ends) ≡ Some end)
   there = is_there ends spawn some
 
-  abbrev after : List (Posting Spawn)
+  abbrev after : List (Posting SpawnedProcess)
   after = slice_set ends (spawn.number % length ends) (posted (is_there ends spawn some).0 spawn)
 
-  each_end : (k : ℕ) (end : Posting Spawn) → slice_get after k ≡ Some end → (end.number ≡ k) × ((x : Spawn) → Among end.put x → WasSpawned q x)
+  each_end : (k : ℕ) (end : Posting SpawnedProcess) → slice_get after k ≡ Some end → (end.number ≡ k) × ((x : SpawnedProcess) → Among end.put x → WasSpawned q x)
   each_end k end at = by_place (k == home) refl
     where
-      by_place : (own : Bool) → (k == home) ≡ own → (end.number ≡ k) × ((x : Spawn) → Among end.put x → WasSpawned q x)
+      by_place : (own : Bool) → (k == home) ≡ own → (end.number ≡ k) × ((x : SpawnedProcess) → Among end.put x → WasSpawned q x)
       by_place true is =
           let same : k ≡ home = eqb-true k home is in
           let end_is : posted there.0 spawn ≡ end = same_Some _ _ (sym (set_here ends home (posted there.0 spawn) (slice_get_within ends home _ there.1)) ∙ ap (slice_get after) (sym same) ∙ at) in (
-            ap (λ (e : Posting Spawn). e.number) (sym end_is) ∙ h.number home there.0 there.1 ∙ sym same,
-            λ x among. here x (among.0, subst (λ (e : Posting Spawn). slice_get e.put among.0 ≡ Some x) (sym end_is) among.1),
+            ap (λ (e : Posting SpawnedProcess). e.number) (sym end_is) ∙ h.number home there.0 there.1 ∙ sym same,
+            λ x among. here x (among.0, subst (λ (e : Posting SpawnedProcess). slice_get e.put among.0 ≡ Some x) (sym end_is) among.1),
           )
         where
-          here : (x : Spawn) → Among (there.0.put ++ spawn ∷ []) x → WasSpawned q x
+          here : (x : SpawnedProcess) → Among (there.0.put ++ spawn ∷ []) x → WasSpawned q x
           here x among = from_last (among_last there.0.put spawn x among.0 among.1)
             where
               from_last : (slice_get there.0.put among.0 ≡ Some x) ⊎ (x ≡ spawn) → WasSpawned q x

@@ -11,7 +11,7 @@ use Rattle.shared_words.specs.Seats.{member_of}
 use Rattle.anchors.specs.Holds.{view_of}
 use Rattle.script_core.specs.declared.script.Script.{Script}
 use Rattle.run_log.proofs.ListPlaces.{get_within}
-use Rattle.run_law.specs.Newcomers.{Spawn}
+use Rattle.run_law.specs.Newcomers.{SpawnedProcess}
 use Rattle.inbox.specs.Ends.{Posting, Taking}
 use Rattle.word_lap.specs.Laws.{SchedulersBegin}
 use Rattle.word_run.specs.declared.seat.Seat.{Seat}
@@ -24,7 +24,7 @@ use Rattle.word_run.proofs.Joined.{joined_at}
 
 module _ {T I : Type 0} where
   -- none at first
-  pub none_opened : (inboxes : List ℕ) (ends : List (Posting Spawn)) (seats : List (Seat T I)) → inboxes ≡ [] → ends ≡ [] → seats ≡ [] → AreOpened [] inboxes ends seats
+  pub none_opened : (inboxes : List ℕ) (ends : List (Posting SpawnedProcess)) (seats : List (Seat T I)) → inboxes ≡ [] → ends ≡ [] → seats ≡ [] → AreOpened [] inboxes ends seats
   none_opened inboxes ends seats no_inbox no_end no_seat = record {
     seats_are = ap length no_seat;
     inboxes_are = ap length no_inbox;
@@ -34,12 +34,12 @@ module _ {T I : Type 0} where
     seat = λ k member seat member_at at. absurd (none-some member member_at);
   }
 
-  module _ (members : List tokens.Member) (member : tokens.Member) (inboxes inboxes_after : List ℕ) (ends ends_after : List (Posting Spawn)) (seats seats_after : List (Seat T I)) (h : AreOpened members inboxes ends seats) (a : AddsSeat member inboxes inboxes_after ends ends_after seats seats_after) where
+  module _ (members : List tokens.Member) (member : tokens.Member) (inboxes inboxes_after : List ℕ) (ends ends_after : List (Posting SpawnedProcess)) (seats seats_after : List (Seat T I)) (h : AreOpened members inboxes ends seats) (a : AddsSeat member inboxes inboxes_after ends ends_after seats seats_after) where
     inbox_from : (k number : ℕ) → (slice_get inboxes k ≡ Some number) ⊎ ((k ≡ length inboxes) × (length seats ≡ number)) → number ≡ k
     inbox_from k number (inl at) = h.inbox k number at
     inbox_from k number (inr last) = omega (arith, last.0, last.1, h.inboxes_are, h.seats_are)
 
-    end_from : (k : ℕ) (end : Posting Spawn) → (slice_get ends k ≡ Some end) ⊎ ((k ≡ length ends) × (none_posted (length seats) ≡ end)) → end ≡ none_posted k
+    end_from : (k : ℕ) (end : Posting SpawnedProcess) → (slice_get ends k ≡ Some end) ⊎ ((k ≡ length ends) × (none_posted (length seats) ≡ end)) → end ≡ none_posted k
     end_from k end (inl at) = h.end k end at
     end_from k end (inr last) = let same : length seats ≡ k = omega (arith, last.0, h.ends_are, h.seats_are) in sym last.1 ∙ ap none_posted same
 
@@ -57,12 +57,12 @@ module _ {T I : Type 0} where
       inboxes_are = omega (arith, ap length a.inbox_joins, length-append inboxes (length seats ∷ []), length-append members (member ∷ []), h.inboxes_are);
       ends_are = omega (arith, ap length a.end_joins, length-append ends (none_posted (length seats) ∷ []), length-append members (member ∷ []), h.ends_are);
       inbox = λ k number at. inbox_from k number (joined_at inboxes (length seats) number k (ap (λ (xs : List ℕ). slice_get xs k) (sym a.inbox_joins) ∙ at));
-      end = λ k end at. end_from k end (joined_at ends (none_posted (length seats)) end k (ap (λ (xs : List (Posting Spawn)). slice_get xs k) (sym a.end_joins) ∙ at));
+      end = λ k end at. end_from k end (joined_at ends (none_posted (length seats)) end k (ap (λ (xs : List (Posting SpawnedProcess)). slice_get xs k) (sym a.end_joins) ∙ at));
       seat = λ k x seat x_at at. seat_from k x seat (joined_at members member x k x_at) (joined_at seats a.seat seat k (ap (λ (xs : List (Seat T I)). slice_get xs k) (sym a.seat_joins) ∙ at));
     }
 
   module _ (functions : List Mfa) (table : TableId) (opening : Opening) (law : SchedulersBegin) (few : opening.members ≤ MOST_MEMBERS) (members : List tokens.Member) (begun : AreMembersBegun table opening.members members)
-      (inboxes : List ℕ) (ends : List (Posting Spawn)) (seats : List (Seat T I)) (opened : AreOpened members inboxes ends seats) where
+      (inboxes : List ℕ) (ends : List (Posting SpawnedProcess)) (seats : List (Seat T I)) (opened : AreOpened members inboxes ends seats) where
     keeps_none : (k : ℕ) (member : tokens.Member) (seat : Seat T I) → slice_get members k ≡ Some member → IsOpened k member seat
         → KeepsBy functions table opening k false 0 member [] seat.scheduler.processes.items
     keeps_none k member seat at o =
@@ -86,8 +86,8 @@ module _ {T I : Type 0} where
         let there = get_within members k (omega (arith, low, opened.seats_are)) in
         let o = opened.seat k there.0 seat there.1 at in
         let s = seat.scheduler in
-        let number : s.taker.number ≡ k = ap (λ (t : Taking Spawn). t.number) o.taker_is in
-        let taken : s.taker.taken ≡ [] = ap (λ (t : Taking Spawn). t.taken) o.taker_is in (
+        let number : s.taker.number ≡ k = ap (λ (t : Taking SpawnedProcess). t.number) o.taker_is in
+        let taken : s.taker.taken ≡ [] = ap (λ (t : Taking SpawnedProcess). t.taken) o.taker_is in (
           o.number_is,
           record {
             inbox = number ∙ sym o.number_is;
@@ -97,20 +97,20 @@ module _ {T I : Type 0} where
                 subst (λ (n : ℕ). KeepsBy functions table opening n s.waits s.generation there.0 s.taker.taken s.processes.items) (sym o.number_is)
                 (subst (λ (b : Bool). KeepsBy functions table opening k b s.generation there.0 s.taker.taken s.processes.items) (sym o.awake)
                 (subst (λ (g : ℕ). KeepsBy functions table opening k false g there.0 s.taker.taken s.processes.items) (sym o.generation)
-                (subst (λ (ts : List Spawn). KeepsBy functions table opening k false 0 there.0 ts s.processes.items) (sym taken) (keeps_none k there.0 seat there.1 o))));
+                (subst (λ (ts : List SpawnedProcess). KeepsBy functions table opening k false 0 there.0 ts s.processes.items) (sym taken) (keeps_none k there.0 seat there.1 o))));
           },
         )
 
   module _ (members : List tokens.Member) (inboxes : List ℕ) (d : DeskState) (seats : List (Seat T I)) (opened : AreOpened members inboxes d.posted seats) (some : 0 < length members) where
-    none_spawned : (home : ℕ) (end : Posting Spawn) → slice_get d.posted home ≡ Some end → (spawn : Spawn) (i : ℕ) → slice_get end.put i ≡ Some spawn → ⊥
-    none_spawned home end at spawn i there = none-some spawn (ap (λ (e : Posting Spawn). slice_get e.put i) (sym (opened.end home end at)) ∙ there)
+    none_spawned : (home : ℕ) (end : Posting SpawnedProcess) → slice_get d.posted home ≡ Some end → (spawn : SpawnedProcess) (i : ℕ) → slice_get end.put i ≡ Some spawn → ⊥
+    none_spawned home end at spawn i there = none-some spawn (ap (λ (e : Posting SpawnedProcess). slice_get e.put i) (sym (opened.end home end at)) ∙ there)
 
     -- nothing was posted yet
     pub desk_begun : IsDesk d
     desk_begun = record {
       some = omega (arith, opened.ends_are, some);
       posted = record {
-        number = λ home end at. ap (λ (e : Posting Spawn). e.number) (opened.end home end at);
+        number = λ home end at. ap (λ (e : Posting SpawnedProcess). e.number) (opened.end home end at);
         each = λ home end at spawn among. absurd (none_spawned home end at spawn among.0 among.1);
       };
     }

@@ -6,11 +6,11 @@ use Rattle.term_core.specs.declared.atom.Mfa.{Mfa}
 use Rattle.shared_words.specs.declared.opening.Opening.{Opening}
 use Rattle.shared_words.specs.declared.seats.Member as tokens
 use Rattle.shared_words.specs.declared.view.MemberView.{MemberView}
-use Rattle.shared_words.specs.Views.{newest}
-use Rattle.progress_words.specs.Reports.{Reported}
+use Rattle.shared_words.specs.Views.{newest_number}
+use Rattle.progress_words.specs.Reports.{HoldsReported}
 use Rattle.anchors.specs.Holds.{view_of}
 use Rattle.code_law.specs.Served.{IsServed}
-use Rattle.run_law.specs.Newcomers.{Spawn}
+use Rattle.run_law.specs.Newcomers.{SpawnedProcess}
 use Rattle.word_lap.specs.declared.process_run.ProcessRun.{ProcessRun}
 use Rattle.word_lap.specs.Laws.{ReportsKeepProcesses}
 use Rattle.word_lap.specs.Schedulers.{IsBetweenTurns, IsToken, KeepsProcesses}
@@ -19,16 +19,16 @@ use Rattle.word_run.specs.declared.scheduler.Scheduler.{Scheduler}
 use Rattle.word_run.specs.Schedulers.{Keeps, KeepsBy}
 
 -- what is learnt of by a report
-pub report_seen : (functions : List Mfa) (old new : MemberView) (generation : ℕ) → Reported (IsServed functions) old new generation → (new.member.generation ≡ generation) × (length new.seen ≡ generation + 1)
+pub report_seen : (functions : List Mfa) (old new : MemberView) (generation : ℕ) → HoldsReported (IsServed functions) old new generation → (new.member.generation ≡ generation) × (length new.seen ≡ generation + 1)
 report_seen functions old new generation r =
-    let held : new.member.generation ≡ newest new.seen = ap (λ (m : MemberView). m.member.generation) r.view in
+    let held : new.member.generation ≡ newest_number new.seen = ap (λ (m : MemberView). m.member.generation) r.view in
     (held ∙ sym r.newest, omega (arith, r.newest, r.some))
 
 module _ (functions : List Mfa) (table : TableId) (opening : Opening) (number : ℕ) where
   -- the member wakes
-  pub kept_awake : (held generation : ℕ) (old new : tokens.Member) (taken : List Spawn) (processes : List (Option ProcessRun))
+  pub kept_awake : (held generation : ℕ) (old new : tokens.Member) (taken : List SpawnedProcess) (processes : List (Option ProcessRun))
       → ReportsKeepProcesses → IsToken table new → new.number ≡ old.number → IsBetweenTurns (view_of new)
-      → ((before : MemberView) → WaitsAfter table before old → Reported (IsServed functions) before (view_of new) generation)
+      → ((before : MemberView) → WaitsAfter table before old → HoldsReported (IsServed functions) before (view_of new) generation)
       → KeepsBy functions table opening number true held old taken processes → KeepsBy functions table opening number false generation new taken processes
   kept_awake held generation old new taken processes law token same between reported h =
       let seated = h.seated in
@@ -40,7 +40,7 @@ module _ (functions : List Mfa) (table : TableId) (opening : Opening) (number : 
       }
 
   -- the member begins to wait
-  pub kept_waiting : (held : ℕ) (old new : tokens.Member) (taken : List Spawn) (processes : List (Option ProcessRun))
+  pub kept_waiting : (held : ℕ) (old new : tokens.Member) (taken : List SpawnedProcess) (processes : List (Option ProcessRun))
       → new.number ≡ old.number → WaitsAfter table (view_of old) new → KeepsBy functions table opening number false held old taken processes → KeepsBy functions table opening number true held new taken processes
   kept_waiting held old new taken processes same waits h =
       let seated = h.seated in
@@ -70,7 +70,7 @@ module _ {T : Type 0} {I : Type 0} (functions : List Mfa) (table : TableId) (ope
   }
 
   pub goes_awake : (old new : tokens.Member) (generation : ℕ) → ReportsKeepProcesses → s.member ≡ Some old → s.waits ≡ true → IsToken table new → new.number ≡ old.number → IsBetweenTurns (view_of new)
-      → ((before : MemberView) → WaitsAfter table before old → Reported (IsServed functions) before (view_of new) generation)
+      → ((before : MemberView) → WaitsAfter table before old → HoldsReported (IsServed functions) before (view_of new) generation)
       → Keeps functions table opening s → Keeps functions table opening (record s { member = Some new; waits = false; generation = generation })
   goes_awake old new generation law is state token same between reported h = record {
     inbox = h.inbox;

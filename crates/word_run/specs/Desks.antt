@@ -3,7 +3,7 @@
 use Rattle.std.specs.Prelude.{◌≡◌, ℕ, ◌<◌, ◌≤◌, List, ◌++◌, length, slice_get, Option, Some, IsSomeAnd}
 use Rattle.area_core.specs.Blocks.{Among}
 use Rattle.run_log.specs.declared.logs.Entry.{Entry}
-use Rattle.run_law.specs.Newcomers.{IsSpawnIn, Spawn}
+use Rattle.run_law.specs.Newcomers.{IsSpawnIn, SpawnedProcess}
 use Rattle.inbox.specs.Ends.{Posting}
 use Rattle.write_permit.specs.Permit.{PermitState, done_of}
 use Rattle.write_permit.specs.Book.{shown}
@@ -12,18 +12,18 @@ use Rattle.word_permit.specs.declared.book.WordBook.{WordBook}
 -- what contracts see of a desk
 pub record DeskState : Type 0 where
   pub book : WordBook
-  pub posted : List (Posting Spawn)
+  pub posted : List (Posting SpawnedProcess)
 
 -- ---- what was posted
 
 -- a process was spawned so: its spawn line was done
-abbrev pub WasSpawned : PermitState → Spawn → Type 0
+abbrev pub WasSpawned : PermitState → SpawnedProcess → Type 0
 WasSpawned p spawn = IsSpawnIn p.script (done_of p.loaders) p.journal spawn.number spawn
 
 -- each home has its number, and what was posted to it was spawned
-pub record ArePosted (p : PermitState) (posted : List (Posting Spawn)) : Type 0 where
-  pub number : (home : ℕ) (end : Posting Spawn) → slice_get posted home ≡ Some end → end.number ≡ home
-  pub each : (home : ℕ) (end : Posting Spawn) → slice_get posted home ≡ Some end → (spawn : Spawn) → Among end.put spawn → WasSpawned p spawn
+pub record ArePosted (p : PermitState) (posted : List (Posting SpawnedProcess)) : Type 0 where
+  pub number : (home : ℕ) (end : Posting SpawnedProcess) → slice_get posted home ≡ Some end → end.number ≡ home
+  pub each : (home : ℕ) (end : Posting SpawnedProcess) → slice_get posted home ≡ Some end → (spawn : SpawnedProcess) → Among end.put spawn → WasSpawned p spawn
 
 -- there is a home, and what was posted was spawned
 pub record IsDesk (d : DeskState) : Type 0 where
@@ -40,7 +40,7 @@ pub record GoesOn (p q : PermitState) : Type 0 where
   pub done : (loader : ℕ) → done_of p.loaders loader ≤ done_of q.loaders loader
 
 -- a step under the lock leaves this of the permit and of what was posted
-pub record MakesOn (p q : PermitState) (ends after : List (Posting Spawn)) : Type 0 where
+pub record MakesOn (p q : PermitState) (ends after : List (Posting SpawnedProcess)) : Type 0 where
   pub goes : GoesOn p q
   pub posted : ArePosted p ends → ArePosted q after
   pub homes : length after ≡ length ends

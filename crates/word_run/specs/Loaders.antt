@@ -3,7 +3,7 @@
 use Rattle.std.specs.Prelude.{◌≡◌, ◌↔◌, ℕ, ◌%◌, ◌<◌, Bool, true, false, List, length, slice_get, slice_set, Option, Some, None, IsSomeAnd, option_map, unwrap_or}
 use Rattle.inbox.specs.Ends.{Posting, Taking, posted}
 use Rattle.script_core.specs.declared.script.ScriptCmd.{ScriptCmd}
-use Rattle.run_law.specs.Newcomers.{Spawn}
+use Rattle.run_law.specs.Newcomers.{SpawnedProcess}
 use Rattle.write_permit.specs.Book.{shown}
 use Rattle.write_permit.specs.Permit.{needs_permission, next_of}
 use Rattle.word_run.specs.declared.slice_step.SliceStep.{SliceStep}
@@ -15,12 +15,12 @@ abbrev pub AreInboxes : List ℕ → Type 0
 AreInboxes inboxes = (home number : ℕ) → slice_get inboxes home ≡ Some number → number ≡ home
 
 -- and so has each end that posts
-abbrev pub AreEnds : List (Posting Spawn) → Type 0
-AreEnds ends = (home : ℕ) (end : Posting Spawn) → slice_get ends home ≡ Some end → end.number ≡ home
+abbrev pub AreEnds : List (Posting SpawnedProcess) → Type 0
+AreEnds ends = (home : ℕ) (end : Posting SpawnedProcess) → slice_get ends home ≡ Some end → end.number ≡ home
 
 -- and each end that takes
-abbrev pub AreTakers : List (Taking Spawn) → Type 0
-AreTakers takers = (home : ℕ) (taker : Taking Spawn) → slice_get takers home ≡ Some taker → taker.number ≡ home
+abbrev pub AreTakers : List (Taking SpawnedProcess) → Type 0
+AreTakers takers = (home : ℕ) (taker : Taking SpawnedProcess) → slice_get takers home ≡ Some taker → taker.number ≡ home
 
 -- what a loader does in a lap, by its next command: one that needs no permission is made at once
 abbrev pub IsStepFor : Option ScriptCmd → SliceStep → Type 0
@@ -51,5 +51,5 @@ pub record TellsOfLoaders (began : Option DeskState) (number count loaders : ℕ
   pub some : over ≡ false → HasCommands began number count loaders
 
 -- the process is posted to the home of its number, and nothing else is
-abbrev pub posted_home : List (Posting Spawn) → Spawn → List (Posting Spawn)
+abbrev pub posted_home : List (Posting SpawnedProcess) → SpawnedProcess → List (Posting SpawnedProcess)
 posted_home ends spawn = unwrap_or (option_map (λ end. slice_set ends (spawn.number % length ends) (posted end spawn)) (slice_get ends (spawn.number % length ends))) ends

@@ -7,7 +7,7 @@ use Rattle.shared_words.specs.declared.opening.Opening.{Opening}
 use Rattle.shared_words.specs.declared.seats.Member as tokens
 use Rattle.shared_words.specs.declared.view.MemberView.{MemberView}
 use Rattle.anchors.specs.Holds.{view_of}
-use Rattle.run_law.specs.Newcomers.{Spawn}
+use Rattle.run_law.specs.Newcomers.{SpawnedProcess}
 use Rattle.word_lap.specs.declared.process_run.ProcessRun.{ProcessRun}
 use Rattle.word_lap.specs.Schedulers.{IsBetweenTurns, IsToken, KeepsProcesses}
 use Rattle.word_lap.specs.Waiting.{WaitsAfter}
@@ -27,7 +27,7 @@ pub record IsSeatedBy (table : TableId) (number : ℕ) (waits : Bool) (generatio
   pub learnt : length before.seen ≡ generation + 1
 
 -- and what it knew then keeps these processes
-pub record KeepsBy (functions : List Mfa) (table : TableId) (opening : Opening) (number : ℕ) (waits : Bool) (generation : ℕ) (token : tokens.Member) (taken : List Spawn) (processes : List (Option ProcessRun)) : Type 0 where
+pub record KeepsBy (functions : List Mfa) (table : TableId) (opening : Opening) (number : ℕ) (waits : Bool) (generation : ℕ) (token : tokens.Member) (taken : List SpawnedProcess) (processes : List (Option ProcessRun)) : Type 0 where
   pub seated : IsSeatedBy table number waits generation token
   pub kept : KeepsProcesses functions opening seated.before taken processes
 

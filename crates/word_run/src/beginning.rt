@@ -1,14 +1,14 @@
 //! The beginning of a run.
 
 ghost use Rattle.std.specs.Prelude.{◌≡◌, ◌<◌, ◌≤◌, ℕ, [], length, slice_get, IfOk, OnOk, Some};
-ghost use Rattle.export_table.specs.Exports.{names_with};
+ghost use Rattle.export_table.specs.Exports.{exports_with};
 ghost use Rattle.inbox.specs.Queues.{QueueId};
 ghost use Rattle.script_core.specs.Sound.{IsScript};
 ghost use Rattle.run_log.specs.ExportedFunctions.{AreExportedFunctions};
 ghost use Rattle.shared_words.specs.Making.{AreMembersBegun};
 ghost use Rattle.word_lap.specs.Laws.{AreAllFree};
 ghost use Rattle.word_run.specs.declared.beginning.TheConstants.{MOST_SCHEDULERS};
-ghost use Rattle.word_run.specs.Beginning.{AddsSeat, AreOpened, BeginsRun, names_after};
+ghost use Rattle.word_run.specs.Beginning.{AddsSeat, AreOpened, BeginsRun, exports_after};
 ghost use Rattle.word_run.specs.Rounds.{IsRun};
 
 use crate::desk::Desk;
@@ -42,7 +42,7 @@ struct Stations<T: TableName, I: InboxNames> {
 
 /// A table of these names, each of which is new, in this order. It takes memory.
 pub fn numbered(alloc: Global, functions: &[Mfa]) -> Result<ExportTable, NoMemory>
-    ensures { IfOk result (λ exports. exports ≡ names_after [] functions.now) }
+    ensures { IfOk result (λ exports. exports ≡ exports_after [] functions.now) }
 {
     let mut exports = ExportTable::new(alloc)?;
     for function in functions {
@@ -53,7 +53,7 @@ pub fn numbered(alloc: Global, functions: &[Mfa]) -> Result<ExportTable, NoMemor
 
 /// A name joins the table.
 fn add_name(exports: &mut ExportTable, function: Mfa) -> Result<(), NoMemory>
-    ensures { OnOk result (exports.new ≡ names_with exports.old function) }
+    ensures { OnOk result (exports.new ≡ exports_with exports.old function) }
 {
     match exports.add(function) {
         Ok(_) => Ok(()),
@@ -90,7 +90,7 @@ pub fn begin_run<K: Naming, N: RunName, T: TableName, I: InboxNames>(
     requires script { IsScript script.now }
     // The names of functions have their numbers by the order of the script's exported functions.
     requires functions { AreExportedFunctions script.now.names script.now.modules functions.now }
-    requires names { K.names ≡ names_after [] functions.now }
+    requires names { K.names ≡ exports_after [] functions.now }
     requires exports { exports ≡ K.names }
     // The words are new, and these are the tokens of their writer and of all their members.
     requires writer { BeginsRun writer script.now N.run }
@@ -137,7 +137,7 @@ fn make_permit<K: Naming, N: RunName>(
 ) -> Result<Permit<K, N>, NoMemory>
     requires script { IsScript script.now }
     requires functions { AreExportedFunctions script.now.names script.now.modules functions.now }
-    requires names { K.names ≡ names_after [] functions.now }
+    requires names { K.names ≡ exports_after [] functions.now }
     requires writer { BeginsRun writer script.now N.run }
     ensures script_is { IfOk result (λ permit. permit.plain.script ≡ script.now) }
     ensures journal { IfOk result (λ permit. permit.plain.journal ≡ []) }

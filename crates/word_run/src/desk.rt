@@ -37,6 +37,6 @@ impl<K: Naming, N: RunName, T: TableName, I: InboxNames> Desk<K, N, T, I> {
     pub fn is_over(&self) -> bool
         ensures { result ≡ true → IsDone self.now }
     {
-        self.permit.server().retired_areas().is_empty() && self.permit.all_done()
+        self.permit.server().oldest_retired().is_none() && self.permit.all_done()
     }
 }

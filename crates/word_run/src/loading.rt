@@ -2,7 +2,7 @@
 
 ghost use Rattle.std.specs.Prelude.{◌≡◌, ◌↔◌, ◌<◌, false, true, List, length, IfOk, IsSomeAnd, None, Some};
 ghost use Rattle.inbox.specs.Ends.{Posting};
-ghost use Rattle.run_law.specs.Newcomers.{Spawn as SpawnedSo};
+ghost use Rattle.run_law.specs.Newcomers.{SpawnedProcess as SpawnedSo};
 ghost use Rattle.script_core.specs.declared.script.ScriptCmd.TheVariants.{Spawn};
 ghost use Rattle.write_permit.specs.Book.{shown};
 ghost use Rattle.write_permit.specs.Permit.{holder_of, needs_permission, next_of, seized_by};

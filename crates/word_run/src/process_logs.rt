@@ -3,7 +3,7 @@
 ghost use Rattle.std.specs.Prelude.{◌≡◌, ◌<◌, IfOk, length, slice_get, slice_set, None};
 ghost use Rattle.script_core.specs.Processes.{spawn_count, spawns_of};
 ghost use Rattle.script_core.specs.Sound.{IsScript};
-ghost use Rattle.word_run.specs.Finished.{AreLogged, IsLogOf};
+ghost use Rattle.word_run.specs.Finished.{AreLogged, IsLogOfRun};
 ghost use Rattle.word_lap.specs.Laws.{log_of_run};
 
 use machine_core::{End, Process};
@@ -36,7 +36,7 @@ pub fn process_logs(
 
 /// The log of the process at a place.
 fn taken_log(number: usize, places: &mut Vec<Option<ProcessRun>>) -> Result<ProcessLog, NoMemory>
-    ensures log { IfOk result (IsLogOf (slice_get places.old.items number)) }
+    ensures log { IfOk result (IsLogOfRun (slice_get places.old.items number)) }
     ensures places { places.new.items ≡ slice_set places.old.items number None }
 {
     if number >= places.len() {

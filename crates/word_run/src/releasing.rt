@@ -2,7 +2,7 @@
 
 ghost use Rattle.std.specs.Prelude.{List};
 ghost use Rattle.inbox.specs.Ends.{Posting};
-ghost use Rattle.run_law.specs.Newcomers.{Spawn as SpawnedSo};
+ghost use Rattle.run_law.specs.Newcomers.{SpawnedProcess as SpawnedSo};
 ghost use Rattle.write_permit.specs.Book.{shown};
 ghost use Rattle.word_permit.specs.Books.{KeepsRun};
 ghost use Rattle.word_permit.specs.Runs.{IsOverWords};

@@ -12,7 +12,7 @@ ghost use Rattle.shared_words.specs.Making.{AreMembersBegun, AreWatchersBegun, I
 ghost use Rattle.shared_words.specs.Seats.{IsWriterSeat, writer_of};
 ghost use Rattle.word_permit.specs.Runs.{IsOverWords};
 ghost use Rattle.word_run.specs.declared.beginning.TheConstants.{MOST_SCHEDULERS};
-ghost use Rattle.word_run.specs.Beginning.{BeginsRun, names_after};
+ghost use Rattle.word_run.specs.Beginning.{BeginsRun, exports_after};
 ghost use Rattle.word_run.specs.Names.{HasTable};
 ghost use Rattle.word_run.specs.Onlookers.{AreOnlookers};
 
@@ -80,7 +80,7 @@ fn run_over<K: Naming + Send + Sync, R: Threads + Wait + Sync, G: Gate>(
     requires some { 0 < schedulers }
     requires few { schedulers ≤ MOST_SCHEDULERS }
     requires functions { AreExportedFunctions script.now.names script.now.modules _functions.now }
-    requires picked { K.names ≡ names_after [] _functions.now }
+    requires picked { K.names ≡ exports_after [] _functions.now }
     ensures legal { IfOk result (λ ran. Legal script.now ran.log) }
     ensures whole { IfOk result (λ ran. All (λ process. AreWhole process.spans) ran.log.processes) }
     ensures closes { IfOk result (λ ran. Closes K.names script.now ran.log (writer_of ran.closed.writer.seat.me.0)) }
@@ -103,7 +103,7 @@ pub fn run_on<K: Naming + Send + Sync, R: Threads + Wait + Sync, G: Gate>(
     requires script { IsScript script.now }
     requires some { 0 < shared.table.shared.key.members }
     // The names of functions have their numbers by the order of the script's exported functions.
-    requires names { (functions : List Mfa) → AreExportedFunctions script.now.names script.now.modules functions → K.names ≡ names_after [] functions }
+    requires names { (functions : List Mfa) → AreExportedFunctions script.now.names script.now.modules functions → K.names ≡ exports_after [] functions }
     // No step was made since `Shared::new`.
     requires token { IsWriterSeat shared.table.shared.table_id shared.table.shared.key parts.writer.generation parts.writer.seat }
     requires writer { IsHanding shared.table.shared.table_id shared.table.shared.key (shared.table.shared.key.members + shared.table.shared.key.watchers) parts.writer.seat }
@@ -155,7 +155,7 @@ where
     G: Gate,
     requires script { IsScript script.now }
     requires functions { AreExportedFunctions script.now.names script.now.modules functions.now }
-    requires names { K.names ≡ names_after [] functions.now }
+    requires names { K.names ≡ exports_after [] functions.now }
     requires exports { exports ≡ K.names }
     requires words { IsOverWords shared.table.shared.table_id shared.table.shared.key N.run }
     requires table { HasTable N.run T.table }
@@ -195,7 +195,7 @@ where
     G: Gate,
     requires script { IsScript script.now }
     requires functions { AreExportedFunctions script.now.names script.now.modules functions.now }
-    requires names { K.names ≡ names_after [] functions.now }
+    requires names { K.names ≡ exports_after [] functions.now }
     requires exports { exports ≡ K.names }
     requires words { IsOverWords shared.table.shared.table_id shared.table.shared.key N.run }
     requires table { HasTable N.run T.table }

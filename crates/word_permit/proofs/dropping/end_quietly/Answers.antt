@@ -1,14 +1,16 @@
 -- The entry joins, and the words stay.
 use Rattle.std.proofs.Common.{refl}
+use Rattle.write_permit.specs.Book.{shown}
 use Rattle.word_permit.proofs.Calls.{kept_shown}
 use Rattle.word_permit.proofs.PurgeCalls.{quiet_end}
+use Rattle.word_permit.proofs.Replies.{ended_reply}
 use Rattle.word_permit.proofs.dropping.end_quietly.Goals as goal
 
 pub end_with-requires-clause-book : goal.end_with-requires-clause-book
 end_with-requires-clause-book g c = c.requires.book.has.book
 
 pub returns-in-Ok-clause-ok : goal.returns-in-Ok-clause-ok
-returns-in-Ok-clause-ok g c = record { cmd = c.args.cmd; ends = c.requires.ends; step = c.in-Ok.ensures.ok; told = c.requires.told; none = c.requires.none }
+returns-in-Ok-clause-ok g c = record { ends = c.requires.ends; step = c.in-Ok.ensures.ok; reply = ended_reply (shown c.args.book.now.plain) (shown c.end_with.new.book) c.args.who c.args.cmd c.in-Ok.applied c.in-Ok.ensures.ok; told = c.requires.told; none = c.requires.none }
 
 pub returns-in-Ok-clause-book : goal.returns-in-Ok-clause-book
 returns-in-Ok-clause-book g c =

@@ -6,9 +6,10 @@ use Rattle.write_permit.specs.Agreement.{new_modules}
 use Rattle.write_permit.specs.Book.{shown}
 use Rattle.write_permit.specs.Permit.{PermitState}
 use Rattle.write_permit.proofs.EndBooks.{next_there}
-use Rattle.word_permit.proofs.Dropped.{drop_made, drops_clear, drops_kept, drops_publish, drops_renew, may_follow, published_book}
+use Rattle.word_permit.proofs.Dropped.{drop_made, drops_clear, drops_kept, drops_looks, drops_publish, drops_renew, may_follow, published_book}
 use Rattle.word_permit.proofs.Followed.{at_rest}
 use Rattle.word_permit.proofs.Kept.{numbers_left, rests}
+use Rattle.word_permit.proofs.Replies.{ended_reply}
 use Rattle.word_permit.proofs.Resting.{ends_no_trace, free_no_trace, rests_by}
 use Rattle.word_permit.proofs.dropping.publish_drop.Goals as goal
 
@@ -58,7 +59,16 @@ returns-in-Ok-clause-ok g c =
     (subst (λ (e : Entry). new_modules e.cmd ≤ c.take_room.new.modules.room) c.entry_of-entry.ensures c.in-Ok.ensures.room) c.take_room.new.journal
     (c.in-Ok.ensures.ok ∙ ap (λ (e : Entry). c.args.book.now.plain.journal ++ e ∷ []) c.entry_of-entry.ensures)
     c.requires.holds c.requires.ends c.finish_change-answer.new.book c.after_next-after.result c.finish_change-answer.result c.finish_change-answer.ensures c.after_next-after.ensures.counted in
-    record { cmd = c.args.decision.cmd; ends = c.requires.ends; step = d.ok; told = keeps.told; none = c.requires.none }
+    record {
+      ends = c.requires.ends;
+      step = d.ok;
+      reply = ended_reply (shown c.args.book.now.plain) (shown c.finish_change-answer.new.book) c.args.who c.args.decision.cmd c.finish_change-answer.result d.ok;
+      told = keeps.told;
+      none = c.requires.none;
+    }
+
+pub returns-in-Ok-clause-dropped : goal.returns-in-Ok-clause-dropped
+returns-in-Ok-clause-dropped g c = drops_looks c.args.decision.change c.args._serial _ _ c.requires.drops c.publish_same.ensures.drop
 
 pub returns-in-Ok-clause-book : goal.returns-in-Ok-clause-book
 returns-in-Ok-clause-book g c =

@@ -1,12 +1,13 @@
 -- What the words answered tells what is left of the book.
 use Rattle.std.proofs.Common.{◌+◌, ◌<◌, ◌≤◌, ◌^◌, ◌∷◌, [], ◌++◌, length, length-append, is_some, refl, ap, subst, ◌∙◌, arith}
 use Rattle.run_log.specs.declared.logs.Entry.{Entry}
+use Rattle.staging.specs.Stages.{stage_number}
 use Rattle.write_permit.specs.Agreement.{new_modules}
 use Rattle.write_permit.specs.Book.{shown}
 use Rattle.word_permit.proofs.Ended.{can_follow}
 use Rattle.word_permit.proofs.Kept.{known_abandoned, made_numbered, numbers_left, rests}
 use Rattle.word_permit.proofs.Resting.{held_no_trace}
-use Rattle.word_permit.proofs.Settling.{settled_need}
+use Rattle.word_permit.proofs.Settling.{settled_forward, settled_need}
 use Rattle.word_permit.proofs.Went.{went_on}
 use Rattle.word_permit.proofs.going_on.go_on_decided.Goals as goal
 
@@ -89,3 +90,9 @@ returns-in-Ok-clause-need g c =
     settled_need c.args.who c.args.waiting.decision.change c.step-stage.result.0 c.after_next-after.result
     (record (c.args.book.now) { plain = record (c.args.book.now.plain) { journal = c.take_room.new.journal; modules = c.take_room.new.modules }; tables = c.step-stage.new.tables }) c.settle.new.book c.step-stage.result.1 c.settle.result
     c.args.book.now.plain.journal c.entry_of-entry.result c.in-Ok.ensures.ok c.settle.ensures
+
+pub returns-in-Ok-clause-forward : goal.returns-in-Ok-clause-forward
+returns-in-Ok-clause-forward g c =
+    settled_forward c.args.who (stage_number c.args.waiting.stage) c.args.waiting.decision.change c.step-stage.result.0 c.after_next-after.result
+    (record (c.args.book.now) { plain = record (c.args.book.now.plain) { journal = c.take_room.new.journal; modules = c.take_room.new.modules }; tables = c.step-stage.new.tables }) c.settle.new.book c.step-stage.result.1 c.settle.result
+    c.args.book.now.plain.journal c.entry_of-entry.result c.in-Ok.ensures.ok c.requires.none c.settle.ensures c.step-stage.ensures.forward

@@ -2,7 +2,8 @@
 use Rattle.std.proofs.Common.{refl, ap, arith}
 use Rattle.shared_words.specs.declared.view.WriterView.{WriterView}
 use Rattle.progress_words.specs.Tokens.{written_by}
-use Rattle.word_permit.proofs.Looked.{counter_loads, last_loaded, looks_loaded}
+use Rattle.breakpoints.proofs.Others.{counted_loads}
+use Rattle.word_permit.proofs.Looked.{last_loaded, looks_loaded}
 use Rattle.word_permit.proofs.PurgeCalls.{value_late, value_reached, value_taken}
 use Rattle.word_permit.proofs.Quiet.{book_asked}
 use Rattle.word_permit.proofs.looking.is_look_reached.Goals as goal
@@ -21,11 +22,11 @@ returns-clause-late g c =
 
 pub returns-clause-same : goal.returns-clause-same
 returns-clause-same g c =
-    let more = counter_loads (written_by c.args.book.now.tables.writer) (written_by c.reached.new.writer) c.reached.ensures.loaded in
+    let more = counted_loads (written_by c.args.book.now.tables.writer) (written_by c.reached.new.writer) c.reached.ensures.loaded in
     record { plain = refl; published = ap (λ (w : WriterView). w.published) c.reached.ensures.loaded.view; waiting = refl; longer = omega (arith, more) }
 
 pub returns-clause-loads : goal.returns-clause-loads
-returns-clause-loads g c = counter_loads (written_by c.args.book.now.tables.writer) (written_by c.reached.new.writer) c.reached.ensures.loaded
+returns-clause-loads g c = counted_loads (written_by c.args.book.now.tables.writer) (written_by c.reached.new.writer) c.reached.ensures.loaded
 
 pub returns-clause-looks : goal.returns-clause-looks
 returns-clause-looks g c = looks_loaded (written_by c.args.book.now.tables.writer) (written_by c.reached.new.writer) c.reached.ensures.loaded

@@ -5,7 +5,7 @@ use Rattle.shared_words.specs.Lingering.{lingering_of}
 use Rattle.shared_words.specs.Seats.{writer_of}
 use Rattle.progress_words.specs.Tokens.{written_by}
 use Rattle.word_permit.proofs.Looked.{as_many, linger_same}
-use Rattle.word_permit.proofs.Lingered.{book_lingered, if_kept, if_left, may_linger}
+use Rattle.word_permit.proofs.Lingered.{book_lingered, if_kept, if_left, if_lingers, may_linger}
 use Rattle.word_permit.proofs.looking.keep_lingering.Goals as goal
 
 pub load_lingering-word-requires-clause-token : goal.load_lingering-word-requires-clause-token
@@ -23,6 +23,10 @@ load_lingering-word-requires-clause-looked g c = may_linger (written_by c.args.b
 pub returns-clause-kept : goal.returns-clause-kept
 returns-clause-kept g c =
     if_kept (written_by c.args.book.now.tables.writer) (written_by c.load_lingering-word.new.writer) c.load_lingering-word.result c.args.serial c.args.process c.args.turn c.args.place c.args._word c.requires.found (ap writer_of c.load_lingering-word.ensures.view) c.named_by.result c.named_by.ensures
+
+pub returns-clause-lingers : goal.returns-clause-lingers
+returns-clause-lingers g c =
+    if_lingers (written_by c.args.book.now.tables.writer) (written_by c.load_lingering-word.new.writer) c.load_lingering-word.result c.args.serial c.args.process c.args.turn (ap writer_of c.load_lingering-word.ensures.view) c.named_by.result c.named_by.ensures
 
 pub returns-clause-left : goal.returns-clause-left
 returns-clause-left g c =

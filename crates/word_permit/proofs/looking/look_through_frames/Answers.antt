@@ -19,7 +19,7 @@ returns-clause-found g c =
     found_newest (written_by c.args.book.now.tables.writer) (written_by c.scan.new.writer) c.args.serial c.scan.result
     (wait_newest (written_by c.args.book.now.tables.writer) (some_published c.requires.book.has.tables) c.requires.reached c.args.serial (gone_now g.K.Naming.names _ _ c.args.book.now c.args._module.0 c.args.serial c.requires.book c.requires.none c.requires.code))
     (wait_over (written_by c.args.book.now.tables.writer) (some_published c.requires.book.has.tables) c.requires.reached c.args.serial (gone_now g.K.Naming.names _ _ c.args.book.now c.args._module.0 c.args.serial c.requires.book c.requires.none c.requires.code))
-    c.scan.ensures.more.same c.scan.ensures.cause
+    c.scan.ensures.more c.scan.ensures.cause
 
 pub returns-clause-same : goal.returns-clause-same
 returns-clause-same g c = record {

@@ -2,13 +2,14 @@
 use Rattle.std.proofs.Common.{Some, refl, ap, arith}
 use Rattle.shared_words.specs.declared.view.WriterView.{WriterView}
 use Rattle.progress_words.specs.Tokens.{written_by}
-use Rattle.word_permit.proofs.Looked.{counter_loads, looks_loaded, taken_last}
+use Rattle.breakpoints.proofs.Others.{counted_loads}
+use Rattle.word_permit.proofs.Looked.{looks_loaded, taken_last}
 use Rattle.word_permit.proofs.Quiet.{book_looking}
 use Rattle.word_permit.proofs.looking.take_look.Goals as goal
 
 pub returns-clause-same : goal.returns-clause-same
 returns-clause-same g c =
-    let more = counter_loads (written_by c.args.book.now.tables.writer) (written_by c.later-value.new.writer) c.later-value.ensures.loaded in
+    let more = counted_loads (written_by c.args.book.now.tables.writer) (written_by c.later-value.new.writer) c.later-value.ensures.loaded in
     record { plain = refl; published = ap (λ (w : WriterView). w.published) c.later-value.ensures.loaded.view; waiting = refl; longer = omega (arith, more) }
 
 pub returns-clause-looks : goal.returns-clause-looks

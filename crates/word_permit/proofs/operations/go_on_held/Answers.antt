@@ -31,7 +31,7 @@ begin-requires-clause-rest g c =
     at_rest g.K.Naming.names (shown c.args.book.now.plain) c.args.book.now.tables c.args.book.now.waiting (sym c.in-None.ensures.value) (held_no_trace c.args.book.now.plain.holder c.args.who c.requires.holds) c.requires.book.words
 
 pub returns-in-Some-clause-ok : goal.returns-in-Some-clause-ok
-returns-in-Some-clause-ok g c = answers_waiting c.args.who c.args.book.now _ c.go_on_waiting.new.book c.go_on_waiting.result c.in-Some.waiting (sym c.in-Some.ensures.value) c.go_on_waiting.ensures.decision c.go_on_waiting.ensures.ok
+returns-in-Some-clause-ok g c = answers_waiting c.args.who c.args.book.now _ c.go_on_waiting.new.book c.go_on_waiting.result c.in-Some.waiting (sym c.in-Some.ensures.value) c.go_on_waiting.ensures.decision c.go_on_waiting.ensures.forward c.go_on_waiting.ensures.ok
 
 pub returns-in-Some-clause-err : goal.returns-in-Some-clause-err
 returns-in-Some-clause-err g c = err_without c.go_on_waiting.result c.args.book.now _ c.go_on_waiting.new.book c.go_on_waiting.ensures.err

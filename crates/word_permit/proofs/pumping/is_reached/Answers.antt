@@ -2,8 +2,9 @@
 use Rattle.std.proofs.Common.{refl, ap}
 use Rattle.shared_words.specs.declared.view.WriterView.{WriterView}
 use Rattle.progress_words.specs.Tokens.{written_by}
+use Rattle.breakpoints.proofs.Others.{counted_loads}
 use Rattle.word_permit.proofs.Awaiting.{awaited_still, reached_begins, waits_loaded}
-use Rattle.word_permit.proofs.Looked.{counter_loads, looks_loaded}
+use Rattle.word_permit.proofs.Looked.{looks_loaded}
 use Rattle.word_permit.proofs.Quiet.{book_asked}
 use Rattle.word_permit.proofs.pumping.is_reached.Goals as goal
 
@@ -18,7 +19,7 @@ pub returns-clause-none_released : goal.returns-clause-none_released
 returns-clause-none_released g c = record { same = refl; pools = refl; published = ap (λ (w : WriterView). w.published) c.reached.ensures.loaded.view; staged = record { index = refl; terms = refl; patch = refl }; waiting = refl; look = refl }
 
 pub returns-clause-loads : goal.returns-clause-loads
-returns-clause-loads g c = counter_loads (written_by c.args.book.now.tables.writer) (written_by c.reached.new.writer) c.reached.ensures.loaded
+returns-clause-loads g c = counted_loads (written_by c.args.book.now.tables.writer) (written_by c.reached.new.writer) c.reached.ensures.loaded
 
 pub returns-clause-looks : goal.returns-clause-looks
 returns-clause-looks g c = looks_loaded (written_by c.args.book.now.tables.writer) (written_by c.reached.new.writer) c.reached.ensures.loaded

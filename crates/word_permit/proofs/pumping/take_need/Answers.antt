@@ -2,8 +2,9 @@
 use Rattle.std.proofs.Common.{refl, ap, arith}
 use Rattle.shared_words.specs.declared.view.WriterView.{WriterView}
 use Rattle.progress_words.specs.Tokens.{written_by}
+use Rattle.breakpoints.proofs.Others.{counted_loads}
 use Rattle.word_permit.proofs.Awaiting.{counter_rises, known_loaded, need_taken}
-use Rattle.word_permit.proofs.Looked.{counter_loads, looks_loaded}
+use Rattle.word_permit.proofs.Looked.{looks_loaded}
 use Rattle.word_permit.proofs.Quiet.{book_loaded, look_asked}
 use Rattle.word_permit.proofs.pumping.take_need.Goals as goal
 
@@ -15,7 +16,7 @@ returns-clause-known g c = known_loaded (written_by c.args.book.now.tables.write
 
 pub returns-clause-longer : goal.returns-clause-longer
 returns-clause-longer g c =
-    let more = counter_loads (written_by c.args.book.now.tables.writer) (written_by c.later-value.new.writer) c.later-value.ensures.loaded in
+    let more = counted_loads (written_by c.args.book.now.tables.writer) (written_by c.later-value.new.writer) c.later-value.ensures.loaded in
     omega (arith, more)
 
 pub returns-clause-looks : goal.returns-clause-looks

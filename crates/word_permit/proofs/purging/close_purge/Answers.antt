@@ -27,7 +27,7 @@ end_wholly-requires-clause-found g c = (written_by c.args.book.now.tables.writer
 pub returns-in-Ok-clause-ok : goal.returns-in-Ok-clause-ok
 returns-in-Ok-clause-ok g c =
     found_ok c.args.who c.args.book.now c.look_for_code.new.book (commands.Purge c.args.code.«module») c.args.code.serial c.in-Ok.scan
-    (second_begun c.args.book.now c.args.who c.args.code.«module» c.requires.holds (second_next c.args.book.now.plain c.requires.book.has.book c.args.who c.args.code c.requires.holds)) (second_next c.args.book.now.plain c.requires.book.has.book c.args.who c.args.code c.requires.holds) c.requires.code
+    (second_begun c.args.book.now c.args.who c.args.code.«module» c.requires.holds (second_next c.args.book.now.plain c.requires.book.has.book c.args.who c.args.code c.requires.holds)) (second_next c.args.book.now.plain c.requires.book.has.book c.args.who c.args.code c.requires.holds) c.requires.code c.requires.holds
     c.look_for_code.ensures.same c.in-Ok.ensures.found c.end_wholly.new.book c.end_wholly.result c.end_wholly.ensures.ok
 
 pub returns-in-Ok-clause-err : goal.returns-in-Ok-clause-err

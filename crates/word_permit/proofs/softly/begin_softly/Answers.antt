@@ -1,10 +1,11 @@
 -- There is old code of the module, or none.
-use Rattle.std.proofs.Common.{Some, ap, refl, sym, ◌∙◌}
+use Rattle.std.proofs.Common.{Some, None, ap, refl, sym, ◌∙◌}
+use Rattle.server_core.specs.declared.command.Cmd.TheVariants as cmds
 use Rattle.script_core.specs.declared.script.ScriptCmd.TheVariants as commands
 use Rattle.progress_words.specs.Tokens.{written_by}
 use Rattle.write_permit.specs.Book.{shown}
 use Rattle.write_permit.proofs.Ends.{purges_code}
-use Rattle.word_permit.proofs.PurgeCalls.{code_none, ends_ok, held_holds, module_found, next_purges, none_looked, none_waits, soft_ends, soft_leaves, soft_tells}
+use Rattle.word_permit.proofs.PurgeCalls.{code_none, ends_ok, held_holds, module_found, next_purges, none_waits, soft_ends, soft_leaves, soft_tells, soft_unlooked}
 use Rattle.word_permit.proofs.softly.begin_softly.Goals as goal
 
 pub purge_softly-requires-clause-next : goal.purge_softly-requires-clause-next
@@ -30,4 +31,7 @@ pub end_quietly-requires-clause-told : goal.end_quietly-requires-clause-told
 end_quietly-requires-clause-told g c = soft_tells c.args.book.now.plain.server (written_by c.args.book.now.tables.writer) _ c.args.«module» (code_none c.args.book.now.plain.server c.args.«module» (sym c.in-None.ensures))
 
 pub returns-in-None-clause-ok : goal.returns-in-None-clause-ok
-returns-in-None-clause-ok g c = ends_ok c.args.book.now c.args.book.now (none_looked c.args.book.now) c.args.who c.end_quietly.new.book c.end_quietly.result c.end_quietly.ensures.ok
+returns-in-None-clause-ok g c =
+    ends_ok c.args.who c.args.book.now c.end_quietly.new.book (cmds.SoftPurge c.args.«module» None)
+    (soft_unlooked c.args.book.now.plain.server c.args.book.now c.end_quietly.new.book c.args.«module» (code_none c.args.book.now.plain.server c.args.«module» (sym c.in-None.ensures)) c.end_quietly.ensures.tables)
+    c.end_quietly.result c.end_quietly.ensures.ok

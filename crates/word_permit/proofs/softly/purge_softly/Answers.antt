@@ -29,7 +29,7 @@ end_softly-requires-clause-found g c = (written_by c.args.book.now.tables.writer
 
 pub returns-in-Ok-clause-ok : goal.returns-in-Ok-clause-ok
 returns-in-Ok-clause-ok g c =
-    found_ok c.args.who c.args.book.now c.look_for_code.new.book (commands.SoftPurge c.args.code.«module») c.args.code.serial c.in-Ok.scan (soft_begun c.args.book.now c.args.who c.args.code.«module» c.requires.next) c.requires.next c.requires.code c.look_for_code.ensures.same c.in-Ok.ensures.found
+    found_ok c.args.who c.args.book.now c.look_for_code.new.book (commands.SoftPurge c.args.code.«module») c.args.code.serial c.in-Ok.scan (soft_begun c.args.book.now c.args.who c.args.code.«module» c.requires.next) c.requires.next c.requires.code c.requires.holds c.look_for_code.ensures.same c.in-Ok.ensures.found
     c.end_softly.new.book c.end_softly.result c.end_softly.ensures.ok
 
 pub returns-in-Ok-clause-err : goal.returns-in-Ok-clause-err

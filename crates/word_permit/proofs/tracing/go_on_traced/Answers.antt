@@ -2,7 +2,7 @@
 use Rattle.std.proofs.Common.{subst, ◌∙◌}
 use Rattle.staging.specs.declared.stage.Step.{Step}
 use Rattle.word_permit.specs.Traced.{SwitchAnswers}
-use Rattle.word_permit.proofs.Switched.{answers_switched, decided_still, entered_ends, none_decided}
+use Rattle.word_permit.proofs.Switched.{answers_switched, decided_still, entered_ends, none_behind, none_decided}
 use Rattle.word_permit.proofs.tracing.go_on_traced.Goals as goal
 
 pub unreachable-requires : goal.unreachable-requires
@@ -20,6 +20,9 @@ returns-in-Published-clause-ok g c =
 
 pub returns-in-Published-clause-decision : goal.returns-in-Published-clause-decision
 returns-in-Published-clause-decision g c = none_decided c.settle_traced.new.book c.args.waiting.decision c.settle_traced.ensures.none
+
+pub returns-in-Published-clause-forward : goal.returns-in-Published-clause-forward
+returns-in-Published-clause-forward g c = none_behind c.settle_traced.new.book c.args.waiting.stage c.settle_traced.ensures.none
 
 pub returns-in-NotYet-clause-ok : goal.returns-in-NotYet-clause-ok
 returns-in-NotYet-clause-ok g c =

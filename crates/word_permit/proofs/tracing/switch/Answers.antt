@@ -6,7 +6,7 @@ use Rattle.write_permit.specs.Book.{shown}
 use Rattle.word_permit.proofs.Ended.{can_follow}
 use Rattle.word_permit.proofs.Kept.{known_abandoned, made_numbered, numbers_left, rests}
 use Rattle.word_permit.proofs.Resting.{held_no_trace}
-use Rattle.word_permit.proofs.Settling.{entered_need}
+use Rattle.word_permit.proofs.Settling.{entered_forward, entered_need}
 use Rattle.word_permit.proofs.Switched.{switched_on}
 use Rattle.word_permit.proofs.TraceCode.{trace_decided}
 use Rattle.word_permit.proofs.tracing.switch.Goals as goal
@@ -77,3 +77,9 @@ returns-in-Ok-clause-need g c =
     entered_need c.args.who c.args.waiting.decision.change c.step_trace-stage.result.0
     (record (c.args.book.now) { plain = record (c.args.book.now.plain) { journal = c.take_room.new.journal; modules = c.take_room.new.modules }; tables = c.step_trace-stage.new.tables }) c.enter.new.book c.step_trace-stage.result.1
     c.args.book.now.plain.journal c.entry_of-entry.result c.in-Ok.ensures.ok c.enter.ensures
+
+pub returns-in-Ok-clause-forward : goal.returns-in-Ok-clause-forward
+returns-in-Ok-clause-forward g c =
+    entered_forward g.K.Naming.names c.args.book.now.plain.server c.args.who c.args.waiting.decision.change c.args.waiting.stage c.step_trace-stage.result.0 c.args.book.now.tables c.step_trace-stage.new.tables
+    (record (c.args.book.now) { plain = record (c.args.book.now.plain) { journal = c.take_room.new.journal; modules = c.take_room.new.modules }; tables = c.step_trace-stage.new.tables }) c.enter.new.book c.step_trace-stage.result.1
+    c.args.book.now.plain.journal c.entry_of-entry.result c.in-Ok.ensures.ok c.requires.none c.requires.traces c.requires.stands c.enter.ensures c.step_trace-stage.ensures.answers

@@ -7,7 +7,7 @@ use Rattle.server_core.specs.ServerState.{empty_state}
 use Rattle.shared_words.specs.declared.seats.Writer as writers
 use Rattle.staging.specs.Stages.{AreAtRest}
 use Rattle.word_permit.specs.Runs.{IsBegunWith}
-use Rattle.word_run.specs.Beginning.{names_after}
+use Rattle.word_run.specs.Beginning.{exports_after}
 use Rattle.word_run.proofs.Made.{begun_with}
 use Rattle.word_run.proofs.Names.{texts_numbered}
 use Rattle.word_run.proofs.beginning.make_permit.Goals as goal
@@ -33,11 +33,11 @@ new-requires-2-clause-texts g c =
 
 -- the names of the tables are those that are picked
 pub new-requires-2-clause-exports : goal.new-requires-2-clause-exports
-new-requires-2-clause-exports g c = c.in_ok-tables.ensures.exports ∙ c.in_ok-exports.ensures ∙ ap (names_after []) c.as_slice.ensures ∙ sym c.requires.names
+new-requires-2-clause-exports g c = c.in_ok-tables.ensures.exports ∙ c.in_ok-exports.ensures ∙ ap (exports_after []) c.as_slice.ensures ∙ sym c.requires.names
 
 pub new-requires-2-clause-rest : goal.new-requires-2-clause-rest
 new-requires-2-clause-rest g c =
-    subst (λ names. AreAtRest names empty_state c.in_ok-tables.tables) (c.in_ok-exports.ensures ∙ ap (names_after []) c.as_slice.ensures ∙ sym c.requires.names) c.in_ok-tables.ensures.rest
+    subst (λ names. AreAtRest names empty_state c.in_ok-tables.tables) (c.in_ok-exports.ensures ∙ ap (exports_after []) c.as_slice.ensures ∙ sym c.requires.names) c.in_ok-tables.ensures.rest
 
 -- the writer of the tables is this one
 pub new-requires-2-clause-opening : goal.new-requires-2-clause-opening

@@ -1,7 +1,7 @@
 use Rattle.std.proofs.Common.{◌<◌, List, length, sym, ap, subst, ◌∙◌}
 use Rattle.std.proofs.lemmas.List.{with_items_is}
 use Rattle.std.specs.Vec.{with_items}
-use Rattle.run_law.specs.Newcomers.{Spawn}
+use Rattle.run_law.specs.Newcomers.{SpawnedProcess}
 use Rattle.inbox.specs.Ends.{Posting}
 use Rattle.word_run.specs.Desks.{AddsInSlices, DeskState}
 use Rattle.word_run.specs.Loaders.{AreEnds}
@@ -10,7 +10,7 @@ use Rattle.word_run.proofs.Slices.{makes_lent}
 use Rattle.word_run.proofs.loading.make_at_once.Goals as goal
 
 pub make_and_post-requires-clause-some : goal.make_and_post-requires-clause-some
-make_and_post-requires-clause-some g c = subst (λ (xs : List (Posting Spawn)). 0 < length xs) (sym c.deref_mut.ensures.value) c.desk.invariant.some
+make_and_post-requires-clause-some g c = subst (λ (xs : List (Posting SpawnedProcess)). 0 < length xs) (sym c.deref_mut.ensures.value) c.desk.invariant.some
 
 pub make_and_post-requires-clause-homes : goal.make_and_post-requires-clause-homes
 make_and_post-requires-clause-homes g c = c.requires.homes ∙ ap (λ (d : DeskState). length d.posted) (sym c.desk.view_is) ∙ ap length (sym c.deref_mut.ensures.value)

@@ -1,6 +1,6 @@
 use Rattle.std.proofs.Common.{[], length, sym, ap, ◌∙◌, arith}
 use Rattle.std.proofs.lemmas.Result.{IfOk-weaker}
-use Rattle.word_run.specs.Beginning.{names_after}
+use Rattle.word_run.specs.Beginning.{exports_after}
 use Rattle.word_run.proofs.Made.{begins_run}
 use Rattle.word_run.proofs.Watching.{waiting_observe}
 use Rattle.word_run.proofs.running.run_on.Goals as goal
@@ -12,7 +12,7 @@ run_named-requires-clause-names g c κs within = c.requires.names c.in_ok-functi
 -- the table has them
 pub run_named-requires-clause-exports : goal.run_named-requires-clause-exports
 run_named-requires-clause-exports g c κs within =
-    c.in_ok-exports.ensures ∙ ap (names_after []) c.as_slice.ensures ∙ sym (c.requires.names c.in_ok-functions.functions c.in_ok-functions.ensures)
+    c.in_ok-exports.ensures ∙ ap (exports_after []) c.as_slice.ensures ∙ sym (c.requires.names c.in_ok-functions.functions c.in_ok-functions.ensures)
 
 -- the words are new
 pub run_named-requires-clause-writer : goal.run_named-requires-clause-writer

@@ -1,6 +1,6 @@
 use Rattle.std.proofs.Common.{◌+◌, [], ◌<◌, sym, ap, ap₂, subst, ◌∙◌, arith}
 use Rattle.shared_words.specs.Making.{AreMembersBegun, AreWatchersBegun, IsHanding}
-use Rattle.word_run.specs.Beginning.{names_after}
+use Rattle.word_run.specs.Beginning.{exports_after}
 use Rattle.word_run.proofs.Exported.{functions_are_one}
 use Rattle.word_run.proofs.running.run_over.Goals as goal
 
@@ -11,7 +11,7 @@ run_on-requires-clause-some g c κs within = subst (λ n. 0 < n) (sym c.in_ok-sh
 -- the script has one list of exported functions
 pub run_on-requires-clause-names : goal.run_on-requires-clause-names
 run_on-requires-clause-names g c κs within = λ functions exported.
-    c.requires.picked ∙ ap (names_after []) (functions_are_one c.args.script.now.names c.args.script.now.modules c.args._functions.now functions c.requires.functions exported)
+    c.requires.picked ∙ ap (exports_after []) (functions_are_one c.args.script.now.names c.args.script.now.modules c.args._functions.now functions c.requires.functions exported)
 
 pub run_on-requires-clause-writer : goal.run_on-requires-clause-writer
 run_on-requires-clause-writer g c κs within =
