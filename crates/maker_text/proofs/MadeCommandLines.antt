@@ -18,11 +18,12 @@ use Rattle.script_core.specs.declared.script.ScriptCmd.{ScriptCmd}
 use Rattle.script_core.specs.declared.script.ScriptCmd.TheVariants.{Load, SoftPurge, CheckOld, Put, Erase, Trace, Spawn}
 use Rattle.script_maker.specs.declared.subject.Subject.{Subject}
 use Rattle.script_maker.specs.Generator.{number_after, picked}
-use Rattle.script_maker.specs.MadeScript.{command_at, command_of, command_of_kind, load_of, made_names, main_of, put_of, spawns_at, subject_of, version_at, version_of}
+use Rattle.script_maker.specs.MadeScript.{command_at, made_command, command_of_kind, made_load, made_names, main_of, put_by_maker, spawns_at, subject_of, version_at, version_of}
 use Rattle.script_maker.proofs.MadeCommands.{either}
 use Rattle.script_maker.proofs.MadeModules.{is_integer}
 use Rattle.script_text.specs.Canonical.{command_line}
-use Rattle.script_text.specs.ScriptLine.{is_script_line, is_term_form}
+use Rattle.mod_text.specs.ModuleLine.{is_term_form}
+use Rattle.script_text.specs.ScriptLine.{is_script_line}
 use Rattle.script_text.specs.ScriptValue.{commands_on}
 use Rattle.script_text.specs.Counts.{script_line_atoms}
 use Rattle.script_text.specs.LineFaults.{is_wide, is_long}
@@ -74,7 +75,7 @@ version_text n least most =
 -- ---- commands
 
 module _ (titles : List ModRef) (about : Subject) (is : IsToldSubject titles about) where
-  load_told : (version : ℕ) → 1 ≤ version → version ≤ 8 → IsSaidBy titles (load_of about version)
+  load_told : (version : ℕ) → 1 ≤ version → version ≤ 8 → IsSaidBy titles (made_load about version)
   load_told version least most =
       let named = is.module_again in
       let numbered = number_again version (omega (arith, most)) in
@@ -103,7 +104,7 @@ module _ (titles : List ModRef) (about : Subject) (is : IsToldSubject titles abo
       let named = is.key_again in
       record { again = λ i. Erase (record { 0 = named i }) ∷ []; is = tt; sound = is.key_text; narrow = refl; brief = refl; held = (is.key_held, tt); given = refl }
 
-  put_told : (place version : ℕ) → place ≤ 999999 → version ≤ 999999 → IsSaidBy titles (put_of about place version)
+  put_told : (place version : ℕ) → place ≤ 999999 → version ≤ 999999 → IsSaidBy titles (put_by_maker about place version)
   put_told place version below small =
       let named = is.key_again in
       let first = signed_decimal-says (pos place) (is_integer place below) in
@@ -161,7 +162,7 @@ module _ (titles : List ModRef) (about : Subject) (is : IsToldSubject titles abo
       (either (IsSaidBy titles) (kind == 5) _ _ (trace_told true) (trace_told false))))))
 
   -- each command is told by its line
-  pub command_told : (place number : ℕ) → place < 4000 → IsSaidBy titles (command_of about place number)
+  pub command_told : (place number : ℕ) → place < 4000 → IsSaidBy titles (made_command about place number)
   command_told place number below =
       either (IsSaidBy titles) (place == 0) _ _ (load_told 1 (lit≤ tt) (lit≤ tt))
       (either (IsSaidBy titles) (spawns_at place) _ _ spawn_told (kind_told place (picked number) below))

@@ -12,7 +12,7 @@ use Rattle.term_core.proofs.Lists.{each_append}
 use Rattle.script_maker.proofs.MadeCommands.{either}
 use Rattle.script_maker.specs.declared.subject.Subject.{Subject}
 use Rattle.script_maker.specs.Generator.{number_after, picked}
-use Rattle.script_maker.specs.MadeScript.{command_at, command_of, command_of_kind, load_of, made_commands, made_module, made_names, main_of, put_of, spawns_at, subject_of, version_at, version_of}
+use Rattle.script_maker.specs.MadeScript.{command_at, made_command, command_of_kind, made_load, made_commands, made_module, made_names, main_of, put_by_maker, spawns_at, subject_of, version_at, version_of}
 use Rattle.script_text.specs.Canonical.{block_form, code_form, command_line}
 use Rattle.script_text.specs.ScriptLine.{ScriptLine, code, script_line_written}
 use Rattle.maker_text.proofs.BriefTexts.{IsBrief, brief_behind, brief_both, brief_line, brief_number, brief_parted, brief_word}
@@ -127,7 +127,7 @@ code_brief lines most brief = record { each = each_code lines brief.each; few = 
 abbrev IsBriefCommand : ScriptCmd → Type 0
 IsBriefCommand cmd = IsBriefLine (command_line made_names cmd)
 
-load_brief : (about : Subject) (version : ℕ) → IsBriefSubject about → version < 1000 → IsBriefCommand (load_of about version)
+load_brief : (about : Subject) (version : ℕ) → IsBriefSubject about → version < 1000 → IsBriefCommand (made_load about version)
 load_brief about version is small =
     let name = atom_text made_names about.«module».0 in
     brief_line (codes "load ") ((name ++ 46 ∷ decimal version) ++ []) 9 refl (lit≤ tt)
@@ -148,7 +148,7 @@ spawn_brief about is =
     let name = atom_text made_names about.«module».0 in
     brief_line (codes "spawn ") (name ++ 58 ∷ codes "main()") 23 refl (lit≤ tt) (brief_parted name (codes "main()") 58 2 20 refl is.module_text (brief_word (codes "main()") refl))
 
-put_brief : (about : Subject) (place version : ℕ) → IsBriefSubject about → place < 4000 → version < 1000 → IsBriefCommand (put_of about place version)
+put_brief : (about : Subject) (place version : ℕ) → IsBriefSubject about → place < 4000 → version < 1000 → IsBriefCommand (put_by_maker about place version)
 put_brief about place version is below small =
     let key = atom_text made_names about.key.0 in
     let none : IsBrief [] 0 = record { short = lit≤ tt; lacks_feed = refl } in
@@ -170,7 +170,7 @@ kind_brief about place kind is below =
     (either IsBriefCommand (kind == 4) _ _ (brief_line (codes "erase ") key 2 refl (lit≤ tt) is.key_text)
     (either IsBriefCommand (kind == 5) _ _ (trace_brief about true is) (trace_brief about false is))))))
 
-command_brief : (about : Subject) (place number : ℕ) → IsBriefSubject about → place < 4000 → IsBriefCommand (command_of about place number)
+command_brief : (about : Subject) (place number : ℕ) → IsBriefSubject about → place < 4000 → IsBriefCommand (made_command about place number)
 command_brief about place number is below =
     either IsBriefCommand (place == 0) _ _ (load_brief about 1 is (lit< tt))
     (either IsBriefCommand (spawns_at place) _ _ (spawn_brief about is) (kind_brief about place (picked number) is below))

@@ -11,9 +11,9 @@ use Rattle.script_core.specs.declared.script.ScriptCmd.TheVariants.{Trace}
 use Rattle.script_maker.proofs.MadeCommands.{either}
 use Rattle.script_maker.specs.declared.subject.Subject.{Subject}
 use Rattle.script_maker.specs.Generator.{number_after, picked}
-use Rattle.script_maker.specs.MadeScript.{command_at, command_of, made_commands, made_names, made_script, made_versions, spawns_at, subject_of, version_of}
+use Rattle.script_maker.specs.MadeScript.{command_at, made_command, made_commands, made_names, made_script, made_versions, spawns_at, subject_of, version_of}
 use Rattle.script_text.specs.Canonical.{block_form, canonical, code_form, command_line}
-use Rattle.script_text.specs.Counts.{names_of, script_line_atoms}
+use Rattle.script_text.specs.Counts.{counted_names, script_line_atoms}
 use Rattle.script_text.specs.ScriptLine.{ScriptLine, go}
 
 -- lines that name nothing new
@@ -45,7 +45,7 @@ IsKnown cmd = names_with_all made_names (script_line_atoms (command_line made_na
 called : (about : Subject) (name : List ℕ) → IsNamedSubject about → names_with made_names name ≡ made_names → names_with_all made_names (atom_text made_names about.«module».0 ∷ name ∷ []) ≡ made_names
 called about name is known = ap (λ names. names_with names name) is.module_known ∙ known
 
-command_known : (about : Subject) (place number : ℕ) → IsNamedSubject about → IsKnown (command_of about place number)
+command_known : (about : Subject) (place number : ℕ) → IsNamedSubject about → IsKnown (made_command about place number)
 command_known about place number is =
     let traced : (on : Bool) → IsKnown (Trace (version_of about) on) = λ on. called about (codes "ver") is refl in
     either IsKnown (place == 0) _ _ is.module_known
@@ -72,7 +72,7 @@ modules_name : names_with_all given_names (flat_map script_line_atoms (code_form
 modules_name = refl
 
 -- the names of the canonical text
-pub names_in_order : (seed size : ℕ) → names_of (canonical (made_script seed size)) ≡ made_names
+pub names_in_order : (seed size : ℕ) → counted_names (canonical (made_script seed size)) ≡ made_names
 names_in_order seed size =
     let first = block_form made_names (made_commands seed 0 ((size + 1) / 2)) in
     let second = block_form made_names (made_commands seed 1 (size / 2)) in

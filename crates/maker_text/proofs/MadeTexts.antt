@@ -3,7 +3,7 @@ use Rattle.std.proofs.Common.{◌≡◌, ℕ, ◌+◌, ◌*◌, ◌/◌, ◌<◌
 use Rattle.std.proofs.lemmas.Bool.{le-ltb}
 use Rattle.std.specs.List.{AllByRecursion, flat_map, list_any}
 use Rattle.mod_text.specs.Canonical.{canonical as module_lines}
-use Rattle.term_core.specs.Text.Cuts.{Lines, lines_of}
+use Rattle.term_core.specs.Text.Cuts.{Lines, lines_of_text}
 use Rattle.term_core.proofs.Text.Cuts.{lacks}
 use Rattle.script_maker.specs.MadeScript.{made_commands, made_names, made_script, made_versions, subject_of}
 use Rattle.script_text.specs.Canonical.{IsTooLongToPrint, block_form, canonical, canonical_text, code_form, is_long_line, script_line_bytes}
@@ -61,5 +61,5 @@ made_text-within seed size fits long =
     let bytes = few_bytes forms brief.each in
     let lines = lines_of_bytes forms (lack_feeds forms brief.each) in
     ⊎_elim (λ (h : 1048576 < length (canonical_text (made_script seed size))). omega (arith, h, bytes, brief.few))
-    (λ (h : IsTrue (list_any is_long_line (lines_of (canonical_text (made_script seed size))).ended)). let none = ap (λ (w : Lines). list_any is_long_line w.ended) lines ∙ none_long forms brief.each in cc)
+    (λ (h : IsTrue (list_any is_long_line (lines_of_text (canonical_text (made_script seed size))).ended)). let none = ap (λ (w : Lines). list_any is_long_line w.ended) lines ∙ none_long forms brief.each in cc)
     long

@@ -3,7 +3,7 @@ ghost use Rattle.script_maker.specs.declared.making.TheConstants.{MOST_COMMANDS}
 ghost use Rattle.script_maker.specs.MadeScript.{made_names, made_script};
 ghost use Rattle.script_text.specs.Canonical.{IsTooLongToPrint, canonical, canonical_text};
 ghost use Rattle.script_text.specs.ScriptText.{ScriptText};
-ghost use Rattle.script_text.specs.Counts.{names_of};
+ghost use Rattle.script_text.specs.Counts.{counted_names};
 
 /// A law: neither the canonical text of a made script nor a line of it is longer than a script's may be.
 pub fn made_texts_are_within()
@@ -17,5 +17,5 @@ pub fn made_texts_are_texts()
 
 /// A law: the names of a made script are those that the lines of its canonical text name, in the order of first appearance.
 pub fn made_names_are_in_order()
-    ensures { (seed size : ℕ) → names_of (canonical (made_script seed size)) ≡ made_names }
+    ensures { (seed size : ℕ) → counted_names (canonical (made_script seed size)) ≡ made_names }
 {}

@@ -1,34 +1,34 @@
 -- The parts of canonical lines, constants too, and what they are read back as.
-use Rattle.std.proofs.Common.{◌≡◌, ℕ, ◌<◌, Bool, true, false, cond, not, ◌&&◌, ◌||◌, ◌==◌, nat_lt, List, [], ◌∷◌, length, ℤ, refl}
-use Rattle.std.proofs.Common.{sym, ap, ◌∙◌, subst, arith, zero, suc, ◌+◌, ◌≤◌, ◌^◌, nat_le, ◌++◌, decimal, drop, pos, negsuc}
+use Rattle.std.proofs.Common.{◌≡◌, ℕ, ◌<◌, Bool, true, false, cond, ◌&&◌, ◌||◌, ◌==◌, nat_lt, List, [], ◌∷◌, length, ℤ, refl}
+use Rattle.std.proofs.Common.{sym, ap, ◌∙◌, subst, arith, zero, suc, ◌+◌, ◌≤◌, ◌^◌, nat_le, ◌++◌, decimal, drop}
 use Rattle.std.proofs.Common.{Option, Some, option_map, is_some, unwrap_or, position, bytes_eq, slice_get, add-one}
 use Rattle.mod_text.proofs.Common.{list_all, list_any, IsTrue, IsSome, is_ascii_digit, is_ascii_lowercase}
-use Rattle.mod_text.proofs.Common.{is_in_range, and_parts, and_from, or_from, lt-ltb, le-leb, not_from_true, Texts}
+use Rattle.mod_text.proofs.Common.{is_in_range, and_from, or_from, lt-ltb, le-leb, not_from_true, Texts}
 use Rattle.mod_text.proofs.Common.{false_from_ne_true, nat_tests, decimal_injective}
 use Rattle.mod_text.proofs.Common.{length-decimal-le, slice_get-get_or, unwrap_or-slice_get}
-use Rattle.term_core.specs.Image.{is_immediate}
 use Rattle.mod_text.proofs.Texts.{is_atom_text, is_name_byte, number_of, IsNames, plain, term_of, number_in}
 use Rattle.mod_text.proofs.Texts.{IsTerm, atom_text, names_with_all, term_text, IsTermInteger}
-use Rattle.mod_text.proofs.Texts.{is_integer_text, is_positive_text, integer_of, is_term_integer}
-use Rattle.mod_text.proofs.Texts.{plain-term_of, term_of-plain, is_term_byte, name_bytes-decimal, range_pos}
-use Rattle.mod_text.proofs.Texts.{range_negsuc, signed_decimal-says, texts_are_atoms, position-cons}
+use Rattle.mod_text.proofs.Texts.{is_integer_text, is_positive_text, integer_of}
+use Rattle.mod_text.proofs.Texts.{plain-term_of, term_of-plain, name_bytes-decimal}
+use Rattle.mod_text.proofs.Texts.{signed_decimal-says, texts_are_atoms, position-cons}
 use Rattle.mod_text.proofs.Texts.{number_value, is_number_text, decimal-writes, same_bytes, bytes_are}
-use Rattle.term_core.specs.PlainTerm.{PlainTerm, EachLeaf, map_leaves, term_words}
-use Rattle.term_core.specs.TermForms.{is_term_text, is_bracketed, is_complex_text, tree_of, term_atoms, text_words, is_wide_text, term_in}
-use Rattle.term_core.specs.Tokens.{Token, leaf, tokens_in, atoms_among}
+use Rattle.term_core.specs.PlainTerm.{PlainTerm, EachLeaf, integer_leaf, atom_leaf, tuple_of, list_of, map_leaves, term_words}
+use Rattle.term_core.specs.TermForms.{is_bracketed, IsFormOf}
+use Rattle.term_core.specs.Written.{WrittenTerm, HasLeafTexts, outside_of}
 use Rattle.term_core.proofs.LeafFacts.{EachLeaf-weaker, EachLeaf-both, EachLeaf-map, term_words-map}
 use Rattle.term_core.proofs.Ranges.{fits_of_none}
-use Rattle.term_core.proofs.TermForms.{tree_is, none_outside_if, is_immediate-term_in, term_bytes-is_term_text, printed_is}
-use Rattle.term_core.proofs.TextForms.{text_outside}
+use Rattle.term_core.proofs.TermForms.{form_is, printed_is}
+use Rattle.term_core.proofs.Truths.{none_by}
+use Rattle.mod_text.proofs.WrittenTerms.{leaf_texts, sound_form}
+use Rattle.mod_text.specs.Canonical.{term_form}
 use Rattle.mod_core.specs.Module.{IsConstant, IsOperand}
 use Rattle.mod_core.specs.ModuleImage.{constants_len, operand_constants}
-use Rattle.mod_text.proofs.Forms.{operand_form_words, OperandForm, complex, is_operand_form, LineForm}
+use Rattle.mod_text.proofs.Forms.{operand_form_words, OperandForm, register, constant, is_term_form, is_operand_form, LineForm}
 use Rattle.mod_text.proofs.Forms.{is_line_form, is_arity_text, is_version_text, operand_in, atom_in}
 use Rattle.mod_text.proofs.Forms.{label_text, written_operand, is_high, has_high_operand, is_wide_operand, is_long_operand, operand_atoms}
 use Rattle.std.specs.Fmt.{signed_decimal}
 use Rattle.mod_text.proofs.Types.{AtomId, Operand}
 use Rattle.term_core.specs.declared.term.Term.{Term}
-use Rattle.term_core.specs.declared.term.Term.TheVariants.{Int, Atom, Tuple, List as ListOf}
 use Rattle.mod_core.specs.declared.code.Operand.TheVariants.{Reg, Const}
 use Rattle.mod_core.specs.HeldNames.{IsConstantAmong, IsOperandAmong}
 
@@ -59,69 +59,49 @@ no_integer (c ∷ rest) h =
 pub no_register : (c : ℕ) (rest : List ℕ) → is_bracketed (c ∷ rest) ≡ true → (c == 36) ≡ false
 no_register c rest h = (bracket_is_other c h).4
 
--- ---- the bytes
-
--- no byte of a term's text is one that no term has
-pub complex_bytes : (text : List ℕ) → is_complex_text text ≡ true → list_all is_term_byte text ≡ true
-complex_bytes text h = term_bytes-is_term_text text (and_parts (is_bracketed text) (is_term_text text) h).1
-
--- ---- atoms
-
-one_atom_by : (text : List ℕ) (t : Bool) (rest : Texts) → is_atom_text text ≡ t → list_all is_atom_text rest ≡ true → list_all is_atom_text (cond t (text ∷ rest) rest) ≡ true
-one_atom_by text true rest is h = and_from (is_atom_text text) (list_all is_atom_text rest) is h
-one_atom_by text false rest is h = h
-
-among_are_atoms : (tokens : List Token) → list_all is_atom_text (atoms_among tokens) ≡ true
-among_are_atoms [] = refl
-among_are_atoms (leaf text ∷ tokens) = one_atom_by text (is_atom_text text) (atoms_among tokens) refl (among_are_atoms tokens)
-among_are_atoms (one ∷ tokens) = among_are_atoms tokens
-
--- the atoms of a term's text are atoms' texts
-pub term_atoms_are : (text : List ℕ) → list_all is_atom_text (term_atoms text) ≡ true
-unfolding term_atoms
-term_atoms_are text = among_are_atoms (tokens_in false text)
-
 -- ---- the constant
 
--- what is said of the constant of a text
-pub record Says (names : Texts) (text : List ℕ) : Type 0 where
-  pub words : term_words (plain (term_of (term_in names text))) ≡ text_words text
-  pub complex : is_immediate (plain (term_of (term_in names text))) ≡ false
-  pub fits : is_wide_text text ≡ false → EachLeaf {A = ℕ} IsTermInteger (λ _. Unit {0}) (plain (term_of (term_in names text)))
-  pub held : (bound : ℕ) → ((t : List ℕ) → number_in names t < bound) → EachLeaf {Z = ℤ} (λ _. Unit {0}) (λ a. a < bound) (plain (term_of (term_in names text)))
+-- the constant that is written so
+abbrev constant_in : Texts → WrittenTerm → Term
+constant_in names form = term_of (map_leaves integer_of (number_in names) form)
 
-pub says : (names : Texts) (text : List ℕ) → is_complex_text text ≡ true → Says names text
-says names text h =
-    let parts = and_parts (is_bracketed text) (is_term_text text) h in
-    let form = tree_is text parts.1 in
-    let value : plain (term_of (term_in names text)) ≡ map_leaves integer_of (number_in names) (tree_of text) = plain-term_of (term_in names text) ∙ form.value names in
-    record {
-      words = ap (λ (t : PlainTerm). term_words t) value ∙ term_words-map integer_of (number_in names) (tree_of text) ∙ sym form.words;
-      complex = ap is_immediate (plain-term_of (term_in names text)) ∙ is_immediate-term_in names text parts.1 ∙ ap not parts.0;
-      fits = λ narrow. subst (EachLeaf {A = ℕ} IsTermInteger (λ _. Unit {0})) (sym value)
-          (EachLeaf-map IsTermInteger (λ _. Unit {0}) integer_of (number_in names) (tree_of text) (fits_of_none (tree_of text) (sym (text_outside text (tree_of text) form.is_text) ∙ none_outside_if text narrow)));
-      held = λ bound every. subst (EachLeaf {Z = ℤ} (λ _. Unit {0}) (λ a. a < bound)) (sym value)
-          (EachLeaf-map (λ _. Unit {0}) (λ a. a < bound) integer_of (number_in names) (tree_of text)
-          (EachLeaf-weaker (λ t. IsTrue (is_integer_text t)) (λ _. Unit {0}) (λ t. IsTrue (is_atom_text t)) (λ t. number_in names t < bound) (λ t _. tt) (λ t _. every t) (tree_of text) form.is_text.leaves));
-    }
+module _ (names : Texts) (form : WrittenTerm) where
+  constant_says : plain (constant_in names form) ≡ map_leaves integer_of (number_in names) form
+  constant_says = plain-term_of (map_leaves integer_of (number_in names) form)
+
+  -- it has as many words
+  constant_words : term_words (plain (constant_in names form)) ≡ term_words form
+  constant_words = ap (λ (t : PlainTerm). term_words t) constant_says ∙ term_words-map integer_of (number_in names) form
+
+  constant_fits : is_wide_operand (constant form) ≡ false → EachLeaf {A = ℕ} IsTermInteger (λ _. Unit {0}) (plain (constant_in names form))
+  constant_fits narrow =
+      subst (EachLeaf {A = ℕ} IsTermInteger (λ _. Unit {0})) (sym constant_says) (EachLeaf-map IsTermInteger (λ _. Unit {0}) integer_of (number_in names) form (fits_of_none form (none_by (outside_of form) narrow)))
+
+  -- its atoms are below a bound where each number is
+  pub constant_held : is_term_form form ≡ true → (bound : ℕ) → ((t : List ℕ) → number_in names t < bound) → EachLeaf {Z = ℤ} (λ _. Unit {0}) (λ a. a < bound) (plain (constant_in names form))
+  constant_held sound bound every =
+      subst (EachLeaf {Z = ℤ} (λ _. Unit {0}) (λ a. a < bound)) (sym constant_says)
+      (EachLeaf-map (λ _. Unit {0}) (λ a. a < bound) integer_of (number_in names) form
+      (EachLeaf-weaker (λ t. IsTrue (is_integer_text t)) (λ _. Unit {0}) (λ t. IsTrue (is_atom_text t)) (λ t. number_in names t < bound) (λ t _. tt) (λ t _. every t) form (leaf_texts form sound)))
+
+  -- a constant within its limits
+  pub constant_is : is_term_form form ≡ true → is_wide_operand (constant form) ≡ false → is_long_operand (constant form) ≡ false → ((t : List ℕ) → number_in names t < 4096) → IsConstant (constant_in names form)
+  constant_is sound narrow short small =
+      let words = constant_words in
+      let few : nat_lt 64 (term_words form) ≡ false = short in
+      record {
+        leaves = EachLeaf-weaker (λ z. IsTermInteger z × Unit {0}) IsTermInteger (λ a. Unit {0} × (a < 4096)) (λ a. a < 4096) (λ z p. p.0) (λ a p. p.1) (plain (constant_in names form))
+            (EachLeaf-both IsTermInteger (λ _. Unit {0}) (λ _. Unit {0}) (λ a. a < 4096) (plain (constant_in names form)) (constant_fits narrow) (constant_held sound 4096 small));
+        short = grind (arith, nat_tests);
+      }
 
 -- the words of an operand's constant
 pub operand_constant_words : (names : Texts) (o : OperandForm) → is_operand_form o ≡ true → constants_len (operand_constants (operand_in names o)) ≡ operand_form_words o
-operand_constant_words names (complex text) h =
-    let s = says names text h in
-    ap (λ t. constants_len (cond t [] (plain (term_of (term_in names text)) ∷ []))) s.complex ∙ omega (arith, s.words)
-operand_constant_words names o h = refl
-
--- a constant within its limits
-pub constant_is : (names : Texts) (text : List ℕ) → is_complex_text text ≡ true → is_wide_text text ≡ false → nat_lt 64 (text_words text) ≡ false → ((t : List ℕ) → number_in names t < 4096) → IsConstant (term_of (term_in names text))
-constant_is names text h narrow short small =
-    let s = says names text h in
-    let words = s.words in
-    record {
-      leaves = EachLeaf-weaker (λ z. IsTermInteger z × Unit {0}) IsTermInteger (λ a. Unit {0} × (a < 4096)) (λ a. a < 4096) (λ z p. p.0) (λ a p. p.1) (plain (term_of (term_in names text)))
-          (EachLeaf-both IsTermInteger (λ _. Unit {0}) (λ _. Unit {0}) (λ a. a < 4096) (plain (term_of (term_in names text))) (s.fits narrow) (s.held 4096 small));
-      short = grind (arith, nat_tests);
-    }
+operand_constant_words names (constant (tuple_of row)) h = omega (arith, constant_words names (tuple_of row))
+operand_constant_words names (constant (list_of row)) h = omega (arith, constant_words names (list_of row))
+operand_constant_words names (constant (integer_leaf text)) h = refl
+operand_constant_words names (constant (atom_leaf text)) h = refl
+operand_constant_words names (register digits) h = refl
 
 -- ---- the parts of canonical lines, atoms, numbers, labels and operands, and what they are read back as
 
@@ -213,10 +193,6 @@ labels_differ a b first second apart =
 
 -- ---- operands
 
-fits_by : (z : ℤ) → IsTermInteger z → is_term_integer z ≡ true
-fits_by (pos n) range = lt-ltb n 576460752303423488 (omega (arith, range_pos n range))
-fits_by (negsuc n) range = lt-ltb n 576460752303423488 (omega (arith, range_negsuc n range))
-
 -- an operand as it is written has its form, passes no limit, adds no name, and is read as that operand
 pub record IsOperandBack (names : Texts) (form : OperandForm) (o : Operand) : Type 0 where
   pub sound : is_operand_form form ≡ true
@@ -226,34 +202,30 @@ pub record IsOperandBack (names : Texts) (form : OperandForm) (o : Operand) : Ty
   pub known : names_with_all names (operand_atoms form) ≡ names
   pub value : operand_in names form ≡ o
 
--- a constant in brackets as it is written
-complex_back : (names : Texts) (term : Term) → is_bracketed (term_text names term) ≡ true → IsNames names → IsConstant term → IsConstantAmong (length names) term → IsOperandBack names (complex (term_text names term)) (Const term)
-complex_back names term brackets sound is held =
+-- a constant as it is written
+constant_back : (names : Texts) (term : Term) → IsNames names → IsConstant term → IsConstantAmong (length names) term → IsOperandBack names (constant (term_form names (plain term))) (Const term)
+constant_back names term sound is held =
+    let form = term_form names (plain term) in
     let leaves = EachLeaf-both IsTermInteger (λ _. Unit {0}) (λ a. a < 4096) (λ a. a < length names) (plain term) is.leaves held in
     let term_is : IsTerm names term =
     EachLeaf-weaker (λ z. IsTermInteger z × Unit {0}) IsTermInteger (λ a. (a < 4096) × (a < length names)) (λ a. IsSome (slice_get names a)) (λ z p. p.0) (λ a p. ap is_some (slice_get-get_or names a [] p.1)) (plain term) leaves in
+    let texts : HasLeafTexts form = EachLeaf-map (λ t. IsTrue (is_integer_text t)) (λ t. IsTrue (is_atom_text t)) signed_decimal (atom_text names) (plain term)
+    (EachLeaf-weaker (λ z. IsTermInteger z × Unit {0}) (λ z. IsTrue (is_integer_text (signed_decimal z))) (λ a. (a < 4096) × (a < length names)) (λ a. IsTrue (is_atom_text (atom_text names a))) (λ z p. (signed_decimal-says z p.0).form) (λ a p. (held_atom names a sound p.1).form) (plain term) leaves) in
+    let shown : IsFormOf (term_text names term) form = form_is (term_text names term) form (record { whole = refl; leaves = texts }) in
     let p = printed_is names term sound term_is in
     let few : term_words (plain term) ≤ 64 = is.short in
-    let words = p.words in
+    let words : term_words form ≡ term_words (plain term) = sym shown.words ∙ p.words in
     record {
-      sound = and_from (is_bracketed (term_text names term)) (is_term_text (term_text names term)) brackets p.is_text;
+      sound = sound_form form texts;
       low = refl;
-      narrow = p.narrow;
+      narrow = sym shown.wide ∙ p.narrow;
       short = grind (arith, nat_tests);
-      known = p.kept;
-      value = ap (λ t. Const (term_of t)) p.value ∙ ap (λ t. Const t) (term_of-plain term);
+      known = ap (names_with_all names) (sym shown.atoms) ∙ p.kept;
+      value = ap (λ t. Const (term_of t)) (sym (shown.value names) ∙ p.value) ∙ ap (λ t. Const t) (term_of-plain term);
     }
 
 pub operand_back : (names : Texts) (o : Operand) → IsNames names → IsOperand o → IsOperandAmong (length names) o → IsOperandBack names (written_operand names o) o
 operand_back names (Reg number) sound is held =
     let w = register_writes number is in
     record { sound = w.form; low = w.low; narrow = refl; short = refl; known = refl; value = ap (λ n. Reg n) w.value }
-operand_back names (Const (Int z)) sound is held =
-    let fits : IsTermInteger z = is.leaves in
-    let s = signed_decimal-says z fits in
-    record { sound = s.form; low = refl; narrow = not_from_true (is_term_integer (integer_of (signed_decimal z))) (ap is_term_integer s.value ∙ fits_by z fits); short = refl; known = refl; value = ap (λ n. Const (Int n)) s.value }
-operand_back names (Const (Atom atom)) sound is held =
-    let h = held_atom names atom.0 sound held in
-    record { sound = h.form; low = refl; narrow = refl; short = refl; known = no_new_name names (atom_text names atom.0) atom.0 h; value = ap (λ a. Const (Atom a)) (atom_back names atom sound held) }
-operand_back names (Const (Tuple ts)) sound is held = complex_back names (Tuple ts) refl sound is held
-operand_back names (Const (ListOf ts)) sound is held = complex_back names (ListOf ts) refl sound is held
+operand_back names (Const term) sound is held = constant_back names term sound is held

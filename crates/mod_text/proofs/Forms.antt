@@ -19,18 +19,18 @@ pub use Rattle.mod_text.specs.LineViews.{line_form, form_of, forms_of, operand_f
 pub use Rattle.mod_text.specs.ModuleLine.{OperandForm, InstrForm, LineForm, is_arity_text, is_operand_form}
 pub use Rattle.mod_text.specs.ModuleLine.{is_function_form, is_instr_form, title, header, label, instr, end}
 pub use Rattle.mod_text.specs.ModuleLine.{is_version_text, is_line_form, line_written, lines_written}
-pub use Rattle.mod_text.specs.ModuleLine.{complex, register, integer, atom, parted_by, operand_written}
+pub use Rattle.mod_text.specs.ModuleLine.{constant, register, is_term_form, parted_by, operand_written}
 pub use Rattle.mod_text.specs.ModuleLine.{function_written, move, add, sub, eq, less, call_ext, ret, pget, pget_or, elem}
 pub use Rattle.mod_text.specs.ModuleLine.{print, line_bytes, LineText, operands_of, some_operand, each_operand}
 pub use Rattle.mod_text.specs.ModuleText.{FollowOn, names_behind, ModuleText, FirstFault, MissingAt, HasModFault}
-pub use Rattle.mod_text.specs.ModuleText.{mod_fault, AreLines, FaultAtFront, unended, stops, faulty}
+pub use Rattle.mod_text.specs.ModuleText.{mod_fault, AreModuleLines, FaultAtFront, unended, stops, faulty}
 pub use Rattle.mod_text.specs.ModuleValue.{HeaderForm, label_number, function_number, instr_in, is_settled}
 pub use Rattle.mod_text.specs.ModuleValue.{headers_in, is_header, function_in, module_of, first_unsettled}
 pub use Rattle.mod_text.specs.ModuleValue.{operand_in, atom_in, unsettled_line, IsTitled, IsMissing, FunctionForm}
 pub use Rattle.mod_text.specs.ModuleValue.{body_of, functions_in, instrs_in, earlier, is_settled_line}
 pub use Rattle.mod_text.specs.ModuleValue.{unsettled_at, unsettled_in, unsettled_below, title_of}
 pub use Rattle.mod_text.specs.Reading.{Read, stop_at, bytes_on, UnlessNoMemory, StopsSo, Step, kept, judged}
-pub use Rattle.mod_text.specs.Reading.{line_step, Fails, Gives, is_end, go_on, text_on, read_behind}
-pub use Rattle.mod_text.specs.Settling.{Places, place_in, ArePlaces, HasPlace, label_at, TakesLine, number_after}
+pub use Rattle.mod_text.specs.Reading.{line_step, Fails, Gives, has_no_line, go_on, text_on, read_behind}
+pub use Rattle.mod_text.specs.Settling.{Places, label_place, ArePlaces, HasPlace, label_at, TakesLine, number_after}
 pub use Rattle.mod_text.specs.Settling.{settled_instr, later_by, function_at, is_body_line, IsUnsettled}
 pub use Rattle.mod_text.specs.Settling.{IsUnsettledBelow, IsLater}

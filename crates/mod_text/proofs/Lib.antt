@@ -19,3 +19,4 @@ pub mod Stepping
 pub mod TextLaws
 pub mod Texts
 pub mod Types
+pub mod WrittenTerms

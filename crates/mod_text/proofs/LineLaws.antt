@@ -7,15 +7,16 @@ use Rattle.mod_text.proofs.Forms.{line_form, instr_reading, lone_reading, instr_
 use Rattle.mod_text.proofs.Forms.{line_split, is_sound_operand, has_sound_operands, operands_of, each_operand}
 use Rattle.mod_text.proofs.Forms.{has_sound_terms, sound_reading, line_reading}
 use Rattle.mod_text.proofs.Texts.{◌>>=◌, cut_at, some_is, map_some, some, passed, cut_is, atom_lacks, number_lacks}
-use Rattle.mod_text.proofs.Texts.{lacks, lacks-append, lacks-cons, IsItem, is_atom_text, is_bracketed}
-use Rattle.mod_text.proofs.Texts.{is_term_text, is_number_text}
+use Rattle.mod_text.proofs.Texts.{lacks, lacks-append, lacks-cons, IsItem, is_atom_text}
+use Rattle.mod_text.proofs.Texts.{is_number_text}
 use Rattle.mod_text.specs.ModuleLine.{OperandForm, InstrForm, move, add, sub, eq, less, jump, call, call_ext, ret, pget}
 use Rattle.mod_text.specs.ModuleLine.{pget_or, elem, print, yield, LineForm, title, header, label, instr, end, instr_written}
-use Rattle.mod_text.specs.ModuleLine.{line_written, is_operand_form, is_instr_form, is_line_form, LineText, complex, parted_by}
+use Rattle.mod_text.specs.ModuleLine.{line_written, is_operand_form, is_instr_form, is_line_form, LineText, constant, parted_by}
 use Rattle.mod_text.specs.ModuleLine.{spaced, function_written, is_version_text, is_arity_text, is_function_form}
 use Rattle.mod_text.proofs.Readers.{Reader, name_is, word_is, made_again}
 use Rattle.mod_text.proofs.LineReaders.{IsSplit as IsSplitOperand, operand, name, function, titled, one_operand, two_operands, branch}
 use Rattle.mod_text.proofs.LineReaders.{local_call, external_call, one_key, key_or, line_feed_apart, line_feed_outside, slot, operand_name}
+use Rattle.mod_text.proofs.WrittenTerms.{sound_term}
 use Rattle.mod_text.proofs.LineReaders.{external, operands_form, operand_lacks, function_lacks, external_lacks, version_number}
 
 -- ---- what is read has this text
@@ -201,7 +202,7 @@ split_again end h = refl
 
 -- the terms of a line are terms
 sound_operand : (o : OperandForm) → is_operand_form o ≡ true → is_sound_operand o ≡ true
-sound_operand (complex text) h = (and_parts (is_bracketed text) (is_term_text text) h).1
+sound_operand (constant term) h = sound_term term h
 sound_operand o h = refl
 
 sound_each : (os : List OperandForm) → each_operand is_operand_form os ≡ true → each_operand is_sound_operand os ≡ true

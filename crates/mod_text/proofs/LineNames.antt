@@ -5,7 +5,7 @@ use Rattle.mod_text.proofs.Common.{list_all, and_parts, and_from, nat_tests, lis
 use Rattle.mod_text.proofs.Common.{All-cons, All-head, All-tail, All-weaker, sum_by-cons, Texts}
 use Rattle.mod_text.proofs.Texts.{is_atom_text, names_with, number_of, names_with_all, is_number_text}
 use Rattle.mod_text.proofs.Types.{LineFault}
-use Rattle.mod_text.specs.ModuleLine.{OperandForm, atom, complex, InstrForm, move, add, sub, eq, less, call, call_ext, ret, pget}
+use Rattle.mod_text.specs.ModuleLine.{OperandForm, constant, InstrForm, move, add, sub, eq, less, call, call_ext, ret, pget}
 use Rattle.mod_text.specs.ModuleLine.{pget_or, elem, print, LineForm, title, header, instr, is_operand_form, is_function_form}
 use Rattle.mod_text.specs.ModuleLine.{is_instr_form, is_line_form, is_arity_text, is_version_text, label, end}
 use Rattle.mod_text.specs.declared.fault.LineFault.TheVariants as faults
@@ -16,7 +16,9 @@ use Rattle.mod_text.proofs.Forms.{headers_in, instrs_in, operand_in, instr_in, f
 use Rattle.mod_text.specs.LineFaults.{operands_atoms}
 use Rattle.mod_text.proofs.LineReaders.{operands_form}
 use Rattle.mod_text.proofs.Forms.{operands_of, each_operand}
-use Rattle.mod_text.proofs.CanonicalParts.{term_atoms_are, IsSound, operand_constant_words}
+use Rattle.mod_text.proofs.CanonicalParts.{IsSound, operand_constant_words}
+use Rattle.mod_text.specs.ModuleLine.{is_term_form, is_row_form}
+use Rattle.term_core.specs.PlainTerm.{TermOf, RowOf, integer_leaf, atom_leaf, tuple_of, list_of, no_terms, term_then, atoms_of, row_atoms}
 use Rattle.mod_core.proofs.ImageWords.{image_len}
 use Rattle.mod_core.specs.ModuleImage.{code_len, instr_len, function_len, operand_constants, instr_constants}
 use Rattle.mod_core.specs.ModuleImage.{code_constants, constants_of, constants_len, module_image}
@@ -34,9 +36,22 @@ both_atoms xs ys h k = list_all-append is_atom_text xs ys ∙ and_from (are_atom
 one_atom : (text : List ℕ) → is_atom_text text ≡ true → are_atoms (text ∷ []) ≡ true
 one_atom text h = and_from (is_atom_text text) true h refl
 
+mutual
+  -- the atoms of a form are texts of atoms
+  pub term_atoms_are : (t : TermOf (List ℕ) (List ℕ)) → is_term_form t ≡ true → are_atoms (atoms_of t) ≡ true
+  term_atoms_are (integer_leaf text) h = refl
+  term_atoms_are (atom_leaf text) h = one_atom text h
+  term_atoms_are (tuple_of row) h = row_atoms_are row h
+  term_atoms_are (list_of row) h = row_atoms_are row h
+
+  row_atoms_are : (row : RowOf (List ℕ) (List ℕ)) → is_row_form row ≡ true → are_atoms (row_atoms row) ≡ true
+  row_atoms_are no_terms h = refl
+  row_atoms_are (term_then t row) h =
+      let p = and_parts (is_term_form t) (is_row_form row) h in
+      both_atoms (atoms_of t) (row_atoms row) (term_atoms_are t p.0) (row_atoms_are row p.1)
+
 operand_atoms_are : (o : OperandForm) → is_operand_form o ≡ true → are_atoms (operand_atoms o) ≡ true
-operand_atoms_are (atom text) h = one_atom text h
-operand_atoms_are (complex text) h = term_atoms_are text
+operand_atoms_are (constant term) h = term_atoms_are term h
 operand_atoms_are o h = refl
 
 operands_are : (os : List OperandForm) → each_operand is_operand_form os ≡ true → are_atoms (operands_atoms os) ≡ true

@@ -2,17 +2,21 @@
 use Rattle.mod_text.proofs.Common.{◌≡◌, ℕ, Bool, true, false, ◌&&◌, ◌==◌, ◌≤◌, nat_lt, nat_le, List, [], ◌∷◌, length, cond}
 use Rattle.mod_text.proofs.Common.{Option, Some, option_map, refl, sym, ap, ◌∙◌, subst, arith, list_all}
 use Rattle.mod_text.proofs.Common.{is_ascii_digit, is_ascii_lowercase, is_in_range, and_parts, and_from, nat_tests, Decides-eqb}
-use Rattle.mod_text.proofs.Texts.{is_atom_text, is_name_byte, is_bracketed, is_term_text, is_complex_text}
+use Rattle.mod_text.proofs.Texts.{is_atom_text, is_name_byte, is_bracketed}
 use Rattle.mod_text.proofs.Texts.{is_integer_text, is_positive_text, is_term_byte, shape_of, Zero, Minus}
-use Rattle.mod_text.proofs.Texts.{Plain, Positive-from, is_number_text, number_value, tested, some, some_is, map_some}
+use Rattle.mod_text.proofs.Texts.{Plain, is_number_text, number_value, text_tested, some, some_is, map_some}
 use Rattle.mod_text.proofs.Texts.{passed, failed, tested_is, tested_at, atom_lacks, number_lacks, lacks}
-use Rattle.mod_text.proofs.Texts.{lacks-all, lacks-append, lacks-cons, IsItem}
-use Rattle.mod_text.proofs.Forms.{OperandForm, register, integer, atom, complex, parted_by, operand_written}
+use Rattle.mod_text.proofs.Texts.{lacks-append, lacks-cons, IsItem}
+use Rattle.mod_text.proofs.Forms.{OperandForm, register, constant, is_term_form, parted_by, operand_written}
 use Rattle.mod_text.proofs.Forms.{function_written, is_version_text, is_arity_text, is_operand_form}
 use Rattle.mod_text.proofs.Forms.{is_function_form, constant_reading, operand_reading, is_sound_operand}
 use Rattle.mod_text.proofs.Forms.{InstrForm, move, add, sub, eq, less, ret, pget_or, elem, print, is_instr_form, operands_of, each_operand}
 use Rattle.term_core.proofs.Truths.{test_le}
-use Rattle.mod_text.proofs.CanonicalParts.{complex_bytes, no_atom, no_integer, no_register}
+use Rattle.mod_text.proofs.CanonicalParts.{no_atom, no_integer, no_register}
+use Rattle.mod_text.proofs.WrittenTerms.{term_lacks, text_kept, sound_is, kept_form, read_again}
+use Rattle.mod_text.specs.LineReading.{term_read}
+use Rattle.term_core.specs.PlainTerm.{integer_leaf, atom_leaf, tuple_of, list_of}
+use Rattle.term_core.specs.Written.{WrittenTerm, written}
 use Rattle.mod_text.proofs.Readers.{Reader, passing, pair, begun}
 
 -- ---- the bytes of words
@@ -42,21 +46,9 @@ space_outside = record { apart = space_apart; term = refl }
 pub line_feed_outside : IsOutside 10
 line_feed_outside = record { apart = line_feed_apart; term = refl }
 
-pub integer_lacks : (byte : ℕ) (text : List ℕ) → IsApart byte → is_integer_text text ≡ true → lacks byte text ≡ true
-integer_lacks byte text apart h = elim (shape_of text h) [
-  | Zero e ↦ ap (lacks byte) e ∙ lacks-cons byte 48 [] apart.zero_digit refl
-  | Minus digits e p ↦ ap (lacks byte) e ∙ lacks-cons byte 45 digits apart.minus (lacks-all is_ascii_digit byte digits apart.digit (Positive-from digits p).digits)
-  | Plain p ↦ lacks-all is_ascii_digit byte text apart.digit (Positive-from text p).digits
-]
-
-pub complex_lacks : (byte : ℕ) (text : List ℕ) → is_term_byte byte ≡ false → is_complex_text text ≡ true → lacks byte text ≡ true
-complex_lacks byte text outside h = lacks-all is_term_byte byte text outside (complex_bytes text h)
-
 pub operand_lacks : (byte : ℕ) (o : OperandForm) → IsOutside byte → is_operand_form o ≡ true → lacks byte (operand_written o) ≡ true
 operand_lacks byte (register digits) out h = lacks-cons byte 36 digits out.apart.dollar (number_lacks byte digits out.apart.digit h)
-operand_lacks byte (integer text) out h = integer_lacks byte text out.apart h
-operand_lacks byte (atom text) out h = atom_lacks byte text out.apart.name h
-operand_lacks byte (complex text) out h = complex_lacks byte text out.term h
+operand_lacks byte (constant term) out h = term_lacks byte term out.term h
 
 pub arity_number : (text : List ℕ) → is_arity_text text ≡ true → is_number_text text ≡ true
 arity_number text h = (and_parts (is_number_text text) _ h).0
@@ -82,23 +74,23 @@ abbrev IsOperand : List ℕ → OperandForm → Type 0
 IsOperand text o = IsItem operand_written IsSplit text o
 
 module _ (text : List ℕ) (o : OperandForm) where
-  complex_is : option_map (λ x. complex x) (tested is_bracketed text) ≡ Some o → IsOperand text o
+  complex_is : option_map (λ t. constant (term_read t)) (text_tested is_bracketed text) ≡ Some o → IsOperand text o
   complex_is e =
-      let m = map_some (λ x. complex x) (tested is_bracketed text) o e in
+      let m = map_some (λ t. constant (term_read t)) (text_tested is_bracketed text) o e in
       let t = tested_is is_bracketed text m.0 m.1 in
-      subst (IsOperand text) m.2 (record { text_is = t.0; fits = λ sound. and_from (is_bracketed m.0) (is_term_text m.0) t.1 sound })
+      subst (IsOperand text) m.2 (record { text_is = t.0 ∙ text_kept m.0; fits = λ sound. kept_form m.0 (sound_is m.0 ∙ sound) })
 
-  number_by : (t : Bool) → is_integer_text text ≡ t → cond t (Some (integer text)) (option_map (λ x. complex x) (tested is_bracketed text)) ≡ Some o → IsOperand text o
-  number_by true is e = subst (IsOperand text) (some_is (integer text) o e) (record { text_is = refl; fits = λ _. is })
+  number_by : (t : Bool) → is_integer_text text ≡ t → cond t (Some (constant (integer_leaf text))) (option_map (λ t. constant (term_read t)) (text_tested is_bracketed text)) ≡ Some o → IsOperand text o
+  number_by true is e = subst (IsOperand text) (some_is (constant (integer_leaf text)) o e) (record { text_is = refl; fits = λ _. is })
   number_by false is e = complex_is e
 
-  constant_by : (t : Bool) → is_atom_text text ≡ t → cond t (Some (atom text)) (cond (is_integer_text text) (Some (integer text)) (option_map (λ x. complex x) (tested is_bracketed text))) ≡ Some o → IsOperand text o
-  constant_by true is e = subst (IsOperand text) (some_is (atom text) o e) (record { text_is = refl; fits = λ _. is })
+  constant_by : (t : Bool) → is_atom_text text ≡ t → cond t (Some (constant (atom_leaf text))) (cond (is_integer_text text) (Some (constant (integer_leaf text))) (option_map (λ t. constant (term_read t)) (text_tested is_bracketed text))) ≡ Some o → IsOperand text o
+  constant_by true is e = subst (IsOperand text) (some_is (constant (atom_leaf text)) o e) (record { text_is = refl; fits = λ _. is })
   constant_by false is e = number_by (is_integer_text text) refl e
 
-operand_by : (c : ℕ) (rest : List ℕ) (o : OperandForm) (t : Bool) → (c == 36) ≡ t → cond t (option_map (λ digits. register digits) (tested is_number_text rest)) (constant_reading (c ∷ rest)) ≡ Some o → IsOperand (c ∷ rest) o
+operand_by : (c : ℕ) (rest : List ℕ) (o : OperandForm) (t : Bool) → (c == 36) ≡ t → cond t (option_map (λ digits. register digits) (text_tested is_number_text rest)) (constant_reading (c ∷ rest)) ≡ Some o → IsOperand (c ∷ rest) o
 operand_by c rest o true is e =
-    let m = map_some (λ digits. register digits) (tested is_number_text rest) o e in
+    let m = map_some (λ digits. register digits) (text_tested is_number_text rest) o e in
     let t = tested_is is_number_text rest m.0 m.1 in
     subst (IsOperand (c ∷ rest)) m.2 (record { text_is = ap (λ (k : ℕ). k ∷ rest) ((Decides-eqb c 36).0 is) ∙ ap (λ (k : List ℕ). 36 ∷ k) t.0; fits = λ _. t.1 })
 operand_by c rest o false is e = constant_by (c ∷ rest) o (is_atom_text (c ∷ rest)) refl e
@@ -109,57 +101,61 @@ operand_is (c ∷ rest) o e = operand_by c rest o (c == 36) refl e
 
 -- what is read of what is no atom and no register
 abbrev number_or_term : List ℕ → Option OperandForm
-number_or_term text = cond (is_integer_text text) (Some (integer text)) (option_map (λ t. complex t) (tested is_bracketed text))
+number_or_term text = cond (is_integer_text text) (Some (constant (integer_leaf text))) (option_map (λ t. constant (term_read t)) (text_tested is_bracketed text))
 
 -- an atom is no register, and no integer
-atom_again : (text : List ℕ) → is_atom_text text ≡ true → operand_reading text ≡ Some (atom text)
+atom_again : (text : List ℕ) → is_atom_text text ≡ true → operand_reading text ≡ Some (constant (atom_leaf text))
 atom_again [] h = absurd cc
 atom_again (c ∷ rest) h =
     let lower : is_ascii_lowercase c ≡ true = (and_parts (is_ascii_lowercase c) _ h).0 in
     let other : (c == 36) ≡ false = grind (arith, nat_tests) in
-    failed (c == 36) (option_map (λ digits. register digits) (tested is_number_text rest)) (constant_reading (c ∷ rest)) other
-    ∙ passed (is_atom_text (c ∷ rest)) (some (atom (c ∷ rest))) (number_or_term (c ∷ rest)) h
+    failed (c == 36) (option_map (λ digits. register digits) (text_tested is_number_text rest)) (constant_reading (c ∷ rest)) other
+    ∙ passed (is_atom_text (c ∷ rest)) (some (constant (atom_leaf (c ∷ rest)))) (number_or_term (c ∷ rest)) h
 
 no_letter : (c : ℕ) (rest : List ℕ) → is_ascii_lowercase c ≡ false → is_atom_text (c ∷ rest) ≡ false
 no_letter c rest h = ap (λ t. t && (list_all is_name_byte rest && nat_lt (length rest) 32)) h
 
 -- where the first byte is no letter and no `$`
-integer_at : (c : ℕ) (rest : List ℕ) → is_ascii_lowercase c ≡ false → (c == 36) ≡ false → is_integer_text (c ∷ rest) ≡ true → operand_reading (c ∷ rest) ≡ Some (integer (c ∷ rest))
+integer_at : (c : ℕ) (rest : List ℕ) → is_ascii_lowercase c ≡ false → (c == 36) ≡ false → is_integer_text (c ∷ rest) ≡ true → operand_reading (c ∷ rest) ≡ Some (constant (integer_leaf (c ∷ rest)))
 integer_at c rest lower other h =
-    failed (c == 36) (option_map (λ digits. register digits) (tested is_number_text rest)) (constant_reading (c ∷ rest)) other
-    ∙ failed (is_atom_text (c ∷ rest)) (some (atom (c ∷ rest))) (number_or_term (c ∷ rest)) (no_letter c rest lower)
-    ∙ passed (is_integer_text (c ∷ rest)) (some (integer (c ∷ rest))) (option_map (λ t. complex t) (tested is_bracketed (c ∷ rest))) h
+    failed (c == 36) (option_map (λ digits. register digits) (text_tested is_number_text rest)) (constant_reading (c ∷ rest)) other
+    ∙ failed (is_atom_text (c ∷ rest)) (some (constant (atom_leaf (c ∷ rest)))) (number_or_term (c ∷ rest)) (no_letter c rest lower)
+    ∙ passed (is_integer_text (c ∷ rest)) (some (constant (integer_leaf (c ∷ rest)))) (option_map (λ t. constant (term_read t)) (text_tested is_bracketed (c ∷ rest))) h
 
 digit_tests : (c : ℕ) → is_in_range 49 57 c ≡ true → (is_ascii_lowercase c ≡ false) × ((c == 36) ≡ false)
 digit_tests c h = (grind (arith, nat_tests), grind (arith, nat_tests))
 
-positive_again : (text : List ℕ) → is_positive_text text ≡ true → is_integer_text text ≡ true → operand_reading text ≡ Some (integer text)
+positive_again : (text : List ℕ) → is_positive_text text ≡ true → is_integer_text text ≡ true → operand_reading text ≡ Some (constant (integer_leaf text))
 positive_again [] p h = absurd cc
 positive_again (c ∷ rest) p h = let tests = digit_tests c (and_parts (is_in_range 49 57 c) (list_all is_ascii_digit rest) p).0 in integer_at c rest tests.0 tests.1 h
 
-integer_again : (text : List ℕ) → is_integer_text text ≡ true → operand_reading text ≡ Some (integer text)
+integer_again : (text : List ℕ) → is_integer_text text ≡ true → operand_reading text ≡ Some (constant (integer_leaf text))
 integer_again text h = elim (shape_of text h) [
-  | Zero e ↦ let P : List ℕ → Type 0 = λ t. is_integer_text t ≡ true → operand_reading t ≡ Some (integer t) in subst P (sym e) (integer_at 48 [] refl refl) h
-  | Minus digits e p ↦ let P : List ℕ → Type 0 = λ t. is_integer_text t ≡ true → operand_reading t ≡ Some (integer t) in subst P (sym e) (integer_at 45 digits refl refl) h
+  | Zero e ↦ let P : List ℕ → Type 0 = λ t. is_integer_text t ≡ true → operand_reading t ≡ Some (constant (integer_leaf t)) in subst P (sym e) (integer_at 48 [] refl refl) h
+  | Minus digits e p ↦ let P : List ℕ → Type 0 = λ t. is_integer_text t ≡ true → operand_reading t ≡ Some (constant (integer_leaf t)) in subst P (sym e) (integer_at 45 digits refl refl) h
   | Plain p ↦ positive_again text p h
 ]
 
--- nor is a tuple or a list any of these
-complex_again : (text : List ℕ) → is_complex_text text ≡ true → operand_reading text ≡ Some (complex text)
-complex_again [] h = absurd cc
-complex_again (c ∷ rest) h =
+-- nor is what begins with a bracket any of these
+bracketed_again : (text : List ℕ) → is_bracketed text ≡ true → operand_reading text ≡ Some (constant (term_read text))
+bracketed_again [] h = absurd cc
+bracketed_again (c ∷ rest) h =
     let text = c ∷ rest in
-    let brackets = (and_parts (is_bracketed text) (is_term_text text) h).0 in
-    failed (c == 36) (option_map (λ digits. register digits) (tested is_number_text rest)) (constant_reading text) (no_register c rest brackets)
-    ∙ failed (is_atom_text text) (some (atom text)) (number_or_term text) (no_atom text brackets)
-    ∙ failed (is_integer_text text) (some (integer text)) (option_map (λ t. complex t) (tested is_bracketed text)) (no_integer text brackets)
-    ∙ ap (option_map (λ t. complex t)) (tested_at is_bracketed text brackets)
+    failed (c == 36) (option_map (λ digits. register digits) (text_tested is_number_text rest)) (constant_reading text) (no_register c rest h)
+    ∙ failed (is_atom_text text) (some (constant (atom_leaf text))) (number_or_term text) (no_atom text h)
+    ∙ failed (is_integer_text text) (some (constant (integer_leaf text))) (option_map (λ t. constant (term_read t)) (text_tested is_bracketed text)) (no_integer text h)
+    ∙ ap (option_map (λ t. constant (term_read t))) (tested_at is_bracketed text h)
+
+-- so a tuple or a list is read from its text
+complex_again : (t : WrittenTerm) → is_term_form t ≡ true → is_bracketed (written t) ≡ true → operand_reading (written t) ≡ Some (constant t)
+complex_again t h brackets = bracketed_again (written t) brackets ∙ ap (λ t. Some (constant t)) (read_again t h)
 
 pub operand_again : (o : OperandForm) → is_operand_form o ≡ true → operand_reading (operand_written o) ≡ Some o
 operand_again (register digits) h = ap (option_map (λ d. register d)) (tested_at is_number_text digits h)
-operand_again (integer text) h = integer_again text h
-operand_again (atom text) h = atom_again text h
-operand_again (complex text) h = complex_again text h
+operand_again (constant (integer_leaf text)) h = integer_again text h
+operand_again (constant (atom_leaf text)) h = atom_again text h
+operand_again (constant (tuple_of row)) h = complex_again (tuple_of row) h refl
+operand_again (constant (list_of row)) h = complex_again (list_of row) h refl
 
 abbrev pub operand : Reader OperandForm
 operand = record { write = operand_written; Known = IsSplit; Fits = λ o. is_operand_form o ≡ true; read = operand_reading; is = operand_is; again = operand_again }

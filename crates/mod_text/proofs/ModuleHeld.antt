@@ -6,11 +6,11 @@ use Rattle.std.specs.Prelude.{Result}
 use Rattle.mod_text.proofs.Texts.{IsNames, is_atom_text, number_of, given_names, number_in, slice_get-number_of, is_number_text}
 use Rattle.mod_text.proofs.Types.{Module, ModFault}
 use Rattle.mod_core.specs.HeldNames.{IsOperandAmong, HasAtomsAmong, IsFunctionHeld, IsModuleHeld}
-use Rattle.mod_text.proofs.Forms.{Ends, read, OperandForm, atom, complex, InstrForm, move, add, sub, eq, less}
+use Rattle.mod_text.proofs.Forms.{Ends, read, OperandForm, constant, InstrForm, move, add, sub, eq, less}
 use Rattle.mod_text.proofs.Forms.{call_ext, ret, pget, pget_or, elem, print, LineForm, is_operand_form}
 use Rattle.mod_text.proofs.Forms.{is_instr_form, FunctionForm, HeaderForm, functions_in, headers_in, instrs_in}
 use Rattle.mod_text.proofs.Forms.{operand_in, instr_in, function_in, module_of, names_after, FollowOn}
-use Rattle.mod_text.proofs.CanonicalParts.{IsSound, says}
+use Rattle.mod_text.proofs.CanonicalParts.{IsSound, constant_held}
 use Rattle.mod_text.proofs.LineNames.{IsSoundInstr, IsSoundFunction, instrs_sound, functions_sound}
 use Rattle.mod_text.proofs.TextLaws.{bytes_are_read}
 
@@ -28,8 +28,7 @@ module _ (names : Texts) (some : 0 < length names) where
   number_held text = number_by text (number_of names text) refl
 
   operand_held : (o : OperandForm) → is_operand_form o ≡ true → IsOperandAmong (length names) (operand_in names o)
-  operand_held (atom text) h = number_held text
-  operand_held (complex text) h = (says names text h).held (length names) number_held
+  operand_held (constant form) h = constant_held names form h (length names) number_held
   operand_held o h = tt
 
   two_held : (a b : OperandForm) (rest : Bool) → (is_operand_form a && (is_operand_form b && rest)) ≡ true → IsOperandAmong (length names) (operand_in names a) × IsOperandAmong (length names) (operand_in names b)

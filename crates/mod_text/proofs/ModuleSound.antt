@@ -1,21 +1,20 @@
 -- The module that a text says is one: within every limit, and each name in it stands for something.
 use Rattle.std.proofs.Common.{◌≡◌, ℕ, zero, suc, ◌+◌, ◌<◌, ◌≤◌, Bool, true, false, cond, not, ◌&&◌, ◌||◌, ◌^◌, nat_lt, nat_le, List, [], ◌∷◌}
-use Rattle.std.proofs.Common.{◌++◌, length, map, Option, Some, None, option_map, is_some, position, unwrap_or, bytes_eq, decimal, ℤ, pos}
-use Rattle.std.proofs.Common.{negsuc, ◌⊎◌, inl, inr, add-one, refl, sym, ap, ◌∙◌, subst, arith, length-append, append_assoc}
+use Rattle.std.proofs.Common.{◌++◌, length, map, Option, Some, None, option_map, is_some, position, unwrap_or, bytes_eq, decimal}
+use Rattle.std.proofs.Common.{◌⊎◌, inl, inr, add-one, refl, sym, ap, ◌∙◌, subst, arith, length-append, append_assoc}
 use Rattle.mod_text.proofs.Common.{All, IsSomeAnd, list_any, and_parts, and_from, or_parts, or_cases}
 use Rattle.mod_text.proofs.Common.{or_right, decimal_digit, decimal-digits_value, slice_get_within, Texts}
 use Rattle.mod_text.proofs.Common.{slice_get-map, list_any-append, nat_tests, append-nil, length-map, All-nil, All-cons, All-head, All-tail}
 use Rattle.std.specs.Prelude.{slice_get}
-use Rattle.std.proofs.lemmas.Int.{ints}
 use Rattle.mod_text.proofs.Types.{AtomId, Function, Module}
-use Rattle.mod_text.proofs.Texts.{number_of, names_with, is_atom_text, number_in, names_with_all, IsTermInteger}
-use Rattle.mod_text.proofs.Texts.{integer_of, is_term_integer, is_positive_text, own, Positive-from}
+use Rattle.mod_text.proofs.Texts.{number_of, names_with, is_atom_text, number_in, names_with_all}
+use Rattle.mod_text.proofs.Texts.{is_positive_text, own, Positive-from}
 use Rattle.mod_text.proofs.Texts.{slice_get-number_of, position-cons, is_some-position, all_at}
 use Rattle.mod_text.proofs.Texts.{is_number_text, number_value, some_is, same_bytes, bytes_are}
 use Rattle.term_core.proofs.Truths.{not_both}
 use Rattle.mod_core.specs.Module.{IsOperand, IsCallPlace, IsInstr, IsFunction, SameFunction, IsModule}
 use Rattle.mod_core.specs.ModuleImage.{module_image}
-use Rattle.mod_text.specs.ModuleLine.{OperandForm, register, integer, atom, complex, InstrForm, move, add, sub, eq, less, jump}
+use Rattle.mod_text.specs.ModuleLine.{OperandForm, register, constant, InstrForm, move, add, sub, eq, less, jump}
 use Rattle.mod_text.specs.ModuleLine.{call, call_ext, ret, pget, pget_or, elem, print, yield, LineForm, title, header, label}
 use Rattle.mod_text.specs.ModuleLine.{instr, end, is_version_text, is_arity_text, is_operand_form, is_function_form}
 use Rattle.mod_text.specs.ModuleValue.{FunctionForm, HeaderForm, body_of, functions_in, headers_in, instrs_in, is_header}
@@ -25,7 +24,7 @@ use Rattle.mod_text.specs.LineFaults.{last_line, is_high, has_high_operand, is_h
 use Rattle.mod_text.specs.LineFaults.{is_wide_operand, has_wide_integer, is_long_operand, has_long_term, names_after}
 use Rattle.mod_text.specs.LineFaults.{overfills_names, is_seventeenth, ends_too_long, is_repeated, fault_of_line, line_atoms}
 use Rattle.mod_text.specs.declared.fault.LineFault.TheVariants as faults
-use Rattle.mod_text.proofs.Forms.{FollowOn, names_behind, AreLines, ModuleText, RowFrom, IsKept, IsKeptInstr}
+use Rattle.mod_text.proofs.Forms.{FollowOn, names_behind, AreModuleLines, ModuleText, RowFrom, IsKept, IsKeptInstr}
 use Rattle.mod_text.proofs.CanonicalParts.{IsSound, constant_is}
 use Rattle.mod_text.proofs.LineNames.{image_words, kept_sound}
 use Rattle.mod_text.proofs.Keepings.{headers_in-append, last_line-push}
@@ -77,15 +76,9 @@ atom_small names text room = number_by names text (number_of names text) refl ro
 low_register : (digits : List ℕ) → is_high digits ≡ false → number_value digits < 16
 low_register digits h = grind (arith, nat_tests)
 
-term_integer : (z : ℤ) → not (is_term_integer z) ≡ false → IsTermInteger z
-term_integer (pos n) h = let below : n < 576460752303423488 = grind (arith, nat_tests) in record { low = omega (arith, ints); high = omega (arith, ints) }
-term_integer (negsuc n) h = let below : n < 576460752303423488 = grind (arith, nat_tests) in record { low = omega (arith, ints); high = omega (arith, ints) }
-
 operand_is : (names : Texts) (o : OperandForm) → length names ≤ 4096 → is_operand_form o ≡ true → has_high_operand o ≡ false → is_wide_operand o ≡ false → is_long_operand o ≡ false → IsOperand (operand_in names o)
 operand_is names (register digits) room sound low narrow short = low_register digits low
-operand_is names (integer text) room sound low narrow short = record { leaves = term_integer (integer_of text) narrow; short = omega arith }
-operand_is names (atom text) room sound low narrow short = record { leaves = atom_small names text room; short = omega arith }
-operand_is names (complex text) room sound low narrow short = constant_is names text sound narrow short (λ t. atom_small names t room)
+operand_is names (constant form) room sound low narrow short = constant_is names form sound narrow short (λ t. atom_small names t room)
 
 -- a call within the registers
 call_place : (arity at : List ℕ) → is_high_call arity at ≡ false → IsCallPlace (number_value at) (number_value arity)
@@ -483,7 +476,7 @@ functions_apart names headers forms are named apart i j below same =
         let arities_are = arities_one f.arity g.arity (and_parts (is_atom_text f.name) (is_arity_text f.arity) form_f.sound).1 (and_parts (is_atom_text g.name) (is_arity_text g.arity) form_g.sound).1 arity_is in
         apart i j (head_of f) (head_of g) below head_i head_j (λ k. (names_are k, arities_are k))
 
-lines_closed : (names : Texts) (lines : List LineForm) → AreLines names lines → last_line lines ≡ Some end → ShortAt lines
+lines_closed : (names : Texts) (lines : List LineForm) → AreModuleLines names lines → last_line lines ≡ Some end → ShortAt lines
 lines_closed names [] follow closed = absurd cc
 lines_closed names (line ∷ lines) follow closed = short_of names [] line lines follow closed
 

@@ -7,7 +7,7 @@ use Rattle.std.proofs.lemmas.Map.Text.{hash_map_updates_str}
 use Rattle.std.proofs.lemmas.Slice.Eq.{bytes_eq-Decides}
 use Rattle.term_core.proofs.Truths.{none_by}
 use Rattle.mod_text.proofs.Forms.{form_of, forms_of, LineForm, title, label, instr, instrs_in, label_number}
-use Rattle.mod_text.proofs.Forms.{earlier, Places, place_in, ArePlaces, HasPlace, label_at, TakesLine}
+use Rattle.mod_text.proofs.Forms.{earlier, Places, label_place, ArePlaces, HasPlace, label_at, TakesLine}
 use Rattle.mod_text.proofs.Forms.{number_after}
 
 earlier-none : (o : Option ℕ) → earlier o None ≡ o
@@ -15,25 +15,25 @@ earlier-none None = refl
 earlier-none (Some n) = refl
 
 -- a label that was added has its number, and each other one what it had
-pub place_added : (old new : Places) (name : Bor (List ℕ)) (number : ℕ) (o : Option ℕ) → o ≡ place_in old name.now → is_some o ≡ false → UpdatesBy (λ x y. bytes_eq x.now y.now) (λ k. bytes_eq name.now k.now) old new (Some number) → HasPlace old new name.now number
+pub place_added : (old new : Places) (name : Bor (List ℕ)) (number : ℕ) (o : Option ℕ) → o ≡ label_place old name.now → is_some o ≡ false → UpdatesBy (λ x y. bytes_eq x.now y.now) (λ k. bytes_eq name.now k.now) old new (Some number) → HasPlace old new name.now number
 place_added old new name number o is none updates = λ wanted.
     hash_map_updates_str name.now old new (Some number) updates wanted ∙ by_test wanted (bytes_eq name.now wanted) refl (sym is ∙ none_by o none)
   where
-    by_test : (wanted : List ℕ) (t : Bool) → bytes_eq name.now wanted ≡ t → place_in old name.now ≡ None → cond t (Some number) (place_in old wanted) ≡ earlier (place_in old wanted) (cond t (Some number) None)
-    by_test wanted true e before = ap (λ p. earlier p (Some number)) (sym (ap (place_in old) (sym ((bytes_eq-Decides name.now wanted).0 e)) ∙ before))
-    by_test wanted false e before = sym (earlier-none (place_in old wanted))
+    by_test : (wanted : List ℕ) (t : Bool) → bytes_eq name.now wanted ≡ t → label_place old name.now ≡ None → cond t (Some number) (label_place old wanted) ≡ earlier (label_place old wanted) (cond t (Some number) None)
+    by_test wanted true e before = ap (λ p. earlier p (Some number)) (sym (ap (label_place old) (sym ((bytes_eq-Decides name.now wanted).0 e)) ∙ before))
+    by_test wanted false e before = sym (earlier-none (label_place old wanted))
 
 earlier-is : (o : Option ℕ) (other : Option ℕ) → is_some o ≡ true → o ≡ earlier o other
 earlier-is None other h = absurd cc
 earlier-is (Some n) other h = refl
 
 -- a label that had a number keeps it
-pub place_kept : (old : Places) (name : Bor (List ℕ)) (number : ℕ) (o : Option ℕ) → o ≡ place_in old name.now → is_some o ≡ true → HasPlace old old name.now number
+pub place_kept : (old : Places) (name : Bor (List ℕ)) (number : ℕ) (o : Option ℕ) → o ≡ label_place old name.now → is_some o ≡ true → HasPlace old old name.now number
 place_kept old name number o is some = λ wanted. by_test wanted (bytes_eq name.now wanted) refl
   where
-    by_test : (wanted : List ℕ) (t : Bool) → bytes_eq name.now wanted ≡ t → place_in old wanted ≡ earlier (place_in old wanted) (cond t (Some number) None)
-    by_test wanted true e = earlier-is (place_in old wanted) (Some number) (ap is_some (ap (place_in old) (sym ((bytes_eq-Decides name.now wanted).0 e)) ∙ sym is) ∙ some)
-    by_test wanted false e = sym (earlier-none (place_in old wanted))
+    by_test : (wanted : List ℕ) (t : Bool) → bytes_eq name.now wanted ≡ t → label_place old wanted ≡ earlier (label_place old wanted) (cond t (Some number) None)
+    by_test wanted true e = earlier-is (label_place old wanted) (Some number) (ap is_some (ap (label_place old) (sym ((bytes_eq-Decides name.now wanted).0 e)) ∙ sym is) ∙ some)
+    by_test wanted false e = sym (earlier-none (label_place old wanted))
 
 -- ---- the labels of lines
 

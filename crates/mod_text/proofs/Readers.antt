@@ -2,10 +2,10 @@
 use Rattle.mod_text.proofs.Common.{◌≡◌, ℕ, Bool, true, false, cond, ◌==◌, List, [], ◌∷◌, ◌++◌, Option, Some}
 use Rattle.mod_text.proofs.Common.{None, bytes_eq, refl, sym, ap, ◌∙◌, subst, append_assoc, Decides-eqb}
 use Rattle.mod_text.proofs.Common.{◌<◌, length, arith, map}
-use Rattle.mod_text.proofs.Texts.{◌>>=◌, tested, cut_at, some, some_is, bind_some, bind_at, passed}
+use Rattle.mod_text.proofs.Texts.{◌>>=◌, text_tested, cut_at, some, some_is, bind_some, bind_at, passed}
 use Rattle.mod_text.proofs.Texts.{bytes_are, tested_is, tested_at, lacks, cut_here, cut_is, IsItem}
 use Rattle.std.specs.List.{AllByRecursion, join_with_byte}
-use Rattle.term_core.specs.Text.Parts.{parts_of, each_reading}
+use Rattle.term_core.specs.Text.Parts.{parts_between, each_reading}
 use Rattle.term_core.proofs.Text.Items.{joined_again, joined_is}
 use Rattle.term_core.proofs.Lists.{nothing}
 use Rattle.mod_text.specs.Sides.{sided, paired, behind, ended_reading}
@@ -24,11 +24,11 @@ fitting write Fits read is again = record { write = write; Known = Fits; Fits = 
 
 -- ---- a text that passes a test
 
-pub passing_is : (test : List ℕ → Bool) (text x : List ℕ) → tested test text ≡ Some x → IsItem (λ (t : List ℕ). t) (λ (t : List ℕ). test t ≡ true) text x
+pub passing_is : (test : List ℕ → Bool) (text x : List ℕ) → text_tested test text ≡ Some x → IsItem (λ (t : List ℕ). t) (λ (t : List ℕ). test t ≡ true) text x
 passing_is test text x e = let is = tested_is test text x e in record { text_is = is.0; fits = is.1 }
 
 abbrev pub passing : (List ℕ → Bool) → Reader (List ℕ)
-passing test = fitting (λ t. t) (λ t. test t ≡ true) (tested test) (passing_is test) (tested_at test)
+passing test = fitting (λ t. t) (λ t. test t ≡ true) (text_tested test) (passing_is test) (tested_at test)
 
 -- ---- two sides of a byte
 
@@ -127,15 +127,15 @@ begun byte r = record { write = λ x. byte ∷ r.write x; Known = r.Known; Fits 
 
 -- ---- some, with a byte between them
 
-pub row_is : {A : Type 0} (byte : ℕ) (r : Reader A) (text : List ℕ) (xs : List A) → each_reading r.read (parts_of byte text) ≡ Some xs → IsItem (λ (ys : List A). join_with_byte byte (map r.write ys)) (λ (ys : List A). (0 < length ys) × AllByRecursion r.Known ys) text xs
+pub row_is : {A : Type 0} (byte : ℕ) (r : Reader A) (text : List ℕ) (xs : List A) → each_reading r.read (parts_between byte text) ≡ Some xs → IsItem (λ (ys : List A). join_with_byte byte (map r.write ys)) (λ (ys : List A). (0 < length ys) × AllByRecursion r.Known ys) text xs
 row_is byte r text xs e = let is = joined_is r.write r.read r.Known byte r.is text xs e in record { text_is = is.text_is; fits = (is.some, is.fit) }
 
-pub row_again : {A : Type 0} (byte : ℕ) (r : Reader A) → ((x : A) → r.Fits x → lacks byte (r.write x) ≡ true) → (xs : List A) → (0 < length xs) × AllByRecursion r.Fits xs → each_reading r.read (parts_of byte (join_with_byte byte (map r.write xs))) ≡ Some xs
+pub row_again : {A : Type 0} (byte : ℕ) (r : Reader A) → ((x : A) → r.Fits x → lacks byte (r.write x) ≡ true) → (xs : List A) → (0 < length xs) × AllByRecursion r.Fits xs → each_reading r.read (parts_between byte (join_with_byte byte (map r.write xs))) ≡ Some xs
 row_again byte r apart [] h = absurd (omega (arith, h.0))
 row_again byte r apart (x ∷ xs) h = joined_again r.write r.read r.Fits byte r.again apart x xs h.1
 
 abbrev pub row : {A : Type 0} (byte : ℕ) (r : Reader A) → ((x : A) → r.Fits x → lacks byte (r.write x) ≡ true) → Reader (List A)
-row byte r apart = record { write = λ xs. join_with_byte byte (map r.write xs); Known = λ xs. (0 < length xs) × AllByRecursion r.Known xs; Fits = λ xs. (0 < length xs) × AllByRecursion r.Fits xs; read = λ text. each_reading r.read (parts_of byte text); is = row_is byte r; again = row_again byte r apart }
+row byte r apart = record { write = λ xs. join_with_byte byte (map r.write xs); Known = λ xs. (0 < length xs) × AllByRecursion r.Known xs; Fits = λ xs. (0 < length xs) × AllByRecursion r.Fits xs; read = λ text. each_reading r.read (parts_between byte text); is = row_is byte r; again = row_again byte r apart }
 
 -- ---- choices by a word
 

@@ -3,23 +3,23 @@ use Rattle.mod_text.proofs.Common.{◌≡◌, ℕ, suc, ◌<◌, Bool, true, fal
 use Rattle.mod_text.proofs.Common.{length, Some, None, Ok, Err, bytes_eq, codes, refl, sym, ap, ◌∙◌, Texts}
 use Rattle.mod_text.proofs.Common.{subst, arith, length-append, nat_tests}
 use Rattle.mod_text.proofs.Types.{LineFault, LineStop}
-use Rattle.mod_text.proofs.Forms.{LineForm, line_step, Fails, Read, stop_at, is_end, go_on, text_on, bytes_on, read_behind, StopsSo}
-use Rattle.mod_text.proofs.Texts.{cut_at, Lines, lines, before_lines, lines_of, passed}
+use Rattle.mod_text.proofs.Forms.{LineForm, line_step, Fails, Read, stop_at, has_no_line, go_on, text_on, bytes_on, read_behind, StopsSo}
+use Rattle.mod_text.proofs.Texts.{cut_at, Lines, lines, before_lines, lines_of_text, passed}
 use Rattle.mod_text.proofs.Texts.{failed, cut_is, uncut_is, lines_of_cut, lines_of_tail}
 use Rattle.mod_text.specs.declared.fault.LineFault.TheVariants as faults
 
-end_of_before : (b : ℕ) (ended : Texts) (tail : List ℕ) → is_end (before_lines b ended tail).ended (before_lines b ended tail).tail ≡ false
+end_of_before : (b : ℕ) (ended : Texts) (tail : List ℕ) → has_no_line (before_lines b ended tail).ended (before_lines b ended tail).tail ≡ false
 end_of_before b [] tail = refl
 end_of_before b (line ∷ others) tail = refl
 
 -- a text is at its end where it has no bytes
-pub is_end-lines : (text : List ℕ) → is_end (lines_of text).ended (lines_of text).tail ≡ (length text == 0)
+pub is_end-lines : (text : List ℕ) → has_no_line (lines_of_text text).ended (lines_of_text text).tail ≡ (length text == 0)
 is_end-lines [] = refl
 is_end-lines (b ∷ bs) =
     let some : (suc (length bs) == 0) ≡ false = grind (arith, nat_tests) in
-    elim (b == 10) as (λ (t : Bool). is_end (cond t (lines ([] ∷ (lines_of bs).ended) (lines_of bs).tail) (before_lines b (lines_of bs).ended (lines_of bs).tail)).ended (cond t (lines ([] ∷ (lines_of bs).ended) (lines_of bs).tail) (before_lines b (lines_of bs).ended (lines_of bs).tail)).tail ≡ (suc (length bs) == 0)) [
+    elim (b == 10) as (λ (t : Bool). has_no_line (cond t (lines ([] ∷ (lines_of_text bs).ended) (lines_of_text bs).tail) (before_lines b (lines_of_text bs).ended (lines_of_text bs).tail)).ended (cond t (lines ([] ∷ (lines_of_text bs).ended) (lines_of_text bs).tail) (before_lines b (lines_of_text bs).ended (lines_of_text bs).tail)).tail ≡ (suc (length bs) == 0)) [
       | true ↦ sym some
-      | false ↦ end_of_before b (lines_of bs).ended (lines_of bs).tail ∙ sym some
+      | false ↦ end_of_before b (lines_of_text bs).ended (lines_of_text bs).tail ∙ sym some
     ]
 
 -- the reading of a line at the front, and of what is behind it

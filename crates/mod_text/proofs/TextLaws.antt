@@ -7,9 +7,9 @@ use Rattle.mod_text.proofs.Types.{LineFault, LineStop}
 use Rattle.mod_text.proofs.Forms.{IsTitled, LineForm, title, end, line_written, lines_written, LineText}
 use Rattle.mod_text.proofs.Forms.{line_reading, may_follow, last_line, names_after, fault_of_line}
 use Rattle.mod_text.proofs.Forms.{StandsBehind, HasLineFault, of_no_form, over_limit, IsNext, FollowOn}
-use Rattle.mod_text.proofs.Forms.{names_behind, AreLines, FaultAtFront, unended, stops, faulty, FirstFault}
-use Rattle.mod_text.proofs.Forms.{Step, kept, judged, line_step, Read, stop_at, is_end, go_on, text_on, bytes_on, read_behind}
-use Rattle.mod_text.proofs.Texts.{cut_at, Lines, lines, before_lines, lines_of, some_is, passed}
+use Rattle.mod_text.proofs.Forms.{names_behind, AreModuleLines, FaultAtFront, unended, stops, faulty, FirstFault}
+use Rattle.mod_text.proofs.Forms.{Step, kept, judged, line_step, Read, stop_at, has_no_line, go_on, text_on, bytes_on, read_behind}
+use Rattle.mod_text.proofs.Texts.{cut_at, Lines, lines, before_lines, lines_of_text, some_is, passed}
 use Rattle.mod_text.proofs.Texts.{bytes_are, lacks, lacks-cons, cut_here, lines_behind, lines_of_tail}
 use Rattle.mod_text.proofs.Stepping.{front_read, bytes_on-cut}
 use Rattle.mod_text.proofs.Keepings.{last_line-push}
@@ -117,13 +117,13 @@ joined_before b [] tail = refl
 joined_before b (line ∷ others) tail = refl
 
 -- a text is its lines joined
-pub joined_lines : (bytes : List ℕ) → joined (lines_of bytes).ended (lines_of bytes).tail ≡ bytes
+pub joined_lines : (bytes : List ℕ) → joined (lines_of_text bytes).ended (lines_of_text bytes).tail ≡ bytes
 unfolding joined
 joined_lines [] = refl
 joined_lines (b ∷ bs) =
-    elim (b == 10) as (λ (t : Bool). (b == 10) ≡ t → joined (cond t (lines ([] ∷ (lines_of bs).ended) (lines_of bs).tail) (before_lines b (lines_of bs).ended (lines_of bs).tail)).ended (cond t (lines ([] ∷ (lines_of bs).ended) (lines_of bs).tail) (before_lines b (lines_of bs).ended (lines_of bs).tail)).tail ≡ b ∷ bs) [
-      | true ↦ λ is. ap (λ k. k ∷ joined (lines_of bs).ended (lines_of bs).tail) (sym (eqb-true b 10 is)) ∙ ap (λ l. b ∷ l) (joined_lines bs)
-      | false ↦ λ _. joined_before b (lines_of bs).ended (lines_of bs).tail ∙ ap (λ l. b ∷ l) (joined_lines bs)
+    elim (b == 10) as (λ (t : Bool). (b == 10) ≡ t → joined (cond t (lines ([] ∷ (lines_of_text bs).ended) (lines_of_text bs).tail) (before_lines b (lines_of_text bs).ended (lines_of_text bs).tail)).ended (cond t (lines ([] ∷ (lines_of_text bs).ended) (lines_of_text bs).tail) (before_lines b (lines_of_text bs).ended (lines_of_text bs).tail)).tail ≡ b ∷ bs) [
+      | true ↦ λ is. ap (λ k. k ∷ joined (lines_of_text bs).ended (lines_of_text bs).tail) (sym (eqb-true b 10 is)) ∙ ap (λ l. b ∷ l) (joined_lines bs)
+      | false ↦ λ _. joined_before b (lines_of_text bs).ended (lines_of_text bs).tail ∙ ap (λ l. b ∷ l) (joined_lines bs)
     ] refl
 
 joined-append : (xs ys : Texts) (tail : List ℕ) → joined (xs ++ ys) tail ≡ joined xs (joined ys tail)
@@ -140,13 +140,13 @@ joined_forms (line ∷ forms) tail =
     ∙ sym (ap (λ l. l ++ tail) (flat_map-cons (λ l. line_written l ++ 10 ∷ []) line forms) ∙ append_assoc (line_written line ++ 10 ∷ []) (lines_written forms) tail ∙ append_assoc (line_written line) (10 ∷ []) (lines_written forms ++ tail))
 
 -- the lines of the bytes of forms, and of what is behind them
-pub lines_of_forms : (names : Texts) (before forms : List LineForm) (rest : List ℕ) → FollowOn names before forms → lines_of (lines_written forms ++ rest) ≡ lines (map line_written forms ++ (lines_of rest).ended) (lines_of rest).tail
+pub lines_of_forms : (names : Texts) (before forms : List LineForm) (rest : List ℕ) → FollowOn names before forms → lines_of_text (lines_written forms ++ rest) ≡ lines (map line_written forms ++ (lines_of_text rest).ended) (lines_of_text rest).tail
 lines_of_forms names before [] rest follow = refl
 lines_of_forms names before (line ∷ forms) rest follow =
     let text = line_written line in
     let whole : lines_written (line ∷ forms) ++ rest ≡ text ++ 10 ∷ (lines_written forms ++ rest) =
     ap (λ l. l ++ rest) (flat_map-cons (λ l. line_written l ++ 10 ∷ []) line forms) ∙ append_assoc (text ++ 10 ∷ []) (lines_written forms) rest ∙ append_assoc text (10 ∷ []) (lines_written forms ++ rest) in
-    ap lines_of whole ∙ lines_behind text (lines_written forms ++ rest) (line_lacks line follow.0.stands.is_text.sound)
+    ap lines_of_text whole ∙ lines_behind text (lines_written forms ++ rest) (line_lacks line follow.0.stands.is_text.sound)
     ∙ ap (λ (w : Lines). lines (text ∷ w.ended) w.tail) (lines_of_forms (names_after names line) (before ++ line ∷ []) forms rest follow.1)
 
 -- ---- what is read
@@ -164,7 +164,7 @@ pub record IsReadOn (names : Texts) (before : List LineForm) (ended : Texts) (ta
 end_line : (text : List ℕ) (line : LineForm) → LineText text line → bytes_eq text (codes "end") ≡ true → line ≡ end
 end_line text line is ends = some_is line end (sym (text_again text line is) ∙ ap line_reading (bytes_are text (codes "end") ends))
 
-nothing_left : (ended : Texts) (tail : List ℕ) → is_end ended tail ≡ true → (ended ≡ []) × (tail ≡ [])
+nothing_left : (ended : Texts) (tail : List ℕ) → has_no_line ended tail ≡ true → (ended ≡ []) × (tail ≡ [])
 nothing_left [] [] h = (refl, refl)
 nothing_left ended tail h = absurd cc
 
@@ -187,7 +187,7 @@ pair_is : (n : Texts) (r : List LineForm) (n' : Texts) (r' : List LineForm) → 
 pair_is n r n' r' e f = λ i. (e i, f i)
 
 module _ (names : Texts) (before : List LineForm) (text : List ℕ) (others : Texts) (tail : List ℕ) (named : Texts) (read : List LineForm) where
-  last_is_read : (n : Texts) (r : List LineForm) → IsStep names before text n r → is_end others tail ≡ true → bytes_eq text (codes "end") ≡ true → ◌≡◌ {A = Read} (Ok (n, r)) (Ok (named, read)) → IsReadOn names before (text ∷ others) tail named read
+  last_is_read : (n : Texts) (r : List LineForm) → IsStep names before text n r → has_no_line others tail ≡ true → bytes_eq text (codes "end") ≡ true → ◌≡◌ {A = Read} (Ok (n, r)) (Ok (named, read)) → IsReadOn names before (text ∷ others) tail named read
   last_is_read n r step last ends e =
       let left = nothing_left others tail last in
       let same : ◌≡◌ {A = Texts × List LineForm} (n, r) (named, read) = ok_is (n, r) (named, read) e in
@@ -215,12 +215,12 @@ module _ (names : Texts) (before : List LineForm) (text : List ℕ) (others : Te
         names_are = rest.names_are ∙ ap (λ ns. names_behind ns rest.more) step.names_are;
       }
 
-  step_is_read : (s : Step) → ((n : Texts) (r : List LineForm) → text_on n r others tail ≡ Ok (named, read) → IsReadOn n r others tail named read) → line_step names before text ≡ s → (is_end others tail && not (bytes_eq text (codes "end"))) ≡ false → go_on (length before) s (λ n r. cond (is_end others tail) (Ok (n, r)) (text_on n r others tail)) ≡ Ok (named, read) → IsReadOn names before (text ∷ others) tail named read
+  step_is_read : (s : Step) → ((n : Texts) (r : List LineForm) → text_on n r others tail ≡ Ok (named, read) → IsReadOn n r others tail named read) → line_step names before text ≡ s → (has_no_line others tail && not (bytes_eq text (codes "end"))) ≡ false → go_on (length before) s (λ n r. cond (has_no_line others tail) (Ok (n, r)) (text_on n r others tail)) ≡ Ok (named, read) → IsReadOn names before (text ∷ others) tail named read
   step_is_read (Err fault) again is goes h = absurd cc
   step_is_read (Ok x) again is goes h =
       let step = step_is names before text x.0 x.1 is in
-      elim (is_end others tail) as (λ t. is_end others tail ≡ t → cond {A = Read} t (Ok (x.0, x.1)) (text_on x.0 x.1 others tail) ≡ Ok (named, read) → IsReadOn names before (text ∷ others) tail named read) [
-        | true ↦ λ last k. last_is_read x.0 x.1 step last (both_false (is_end others tail) (bytes_eq text (codes "end")) last goes) k
+      elim (has_no_line others tail) as (λ t. has_no_line others tail ≡ t → cond {A = Read} t (Ok (x.0, x.1)) (text_on x.0 x.1 others tail) ≡ Ok (named, read) → IsReadOn names before (text ∷ others) tail named read) [
+        | true ↦ λ last k. last_is_read x.0 x.1 step last (both_false (has_no_line others tail) (bytes_eq text (codes "end")) last goes) k
         | false ↦ λ _ k. more_is_read x.0 x.1 step (again x.0 x.1 k)
       ] refl h
 
@@ -228,7 +228,7 @@ module _ (names : Texts) (before : List LineForm) (text : List ℕ) (others : Te
 pub text_is_read : (names : Texts) (before : List LineForm) (ended : Texts) (tail : List ℕ) (named : Texts) (read : List LineForm) → text_on names before ended tail ≡ Ok (named, read) → IsReadOn names before ended tail named read
 text_is_read names before [] tail named read e = absurd cc
 text_is_read names before (text ∷ others) tail named read e =
-    elim (is_end others tail && not (bytes_eq text (codes "end"))) as (λ t. (is_end others tail && not (bytes_eq text (codes "end"))) ≡ t → cond {A = Read} t (stop_at (length before) faults.Syntax) (go_on (length before) (line_step names before text) (λ n r. cond (is_end others tail) (Ok (n, r)) (text_on n r others tail))) ≡ Ok (named, read) → IsReadOn names before (text ∷ others) tail named read) [
+    elim (has_no_line others tail && not (bytes_eq text (codes "end"))) as (λ t. (has_no_line others tail && not (bytes_eq text (codes "end"))) ≡ t → cond {A = Read} t (stop_at (length before) faults.Syntax) (go_on (length before) (line_step names before text) (λ n r. cond (has_no_line others tail) (Ok (n, r)) (text_on n r others tail))) ≡ Ok (named, read) → IsReadOn names before (text ∷ others) tail named read) [
       | true ↦ λ _ h. absurd cc
       | false ↦ λ goes h. step_is_read names before text others tail named read (line_step names before text) (λ n r. text_is_read n r others tail named read) refl goes h
     ] refl e
@@ -247,7 +247,7 @@ more_again names before line (next ∷ rest) follow closed =
     ∙ more_again (names_after names line) after next rest follow.1 (ap last_line whole ∙ closed)
     ∙ ap (λ ls. Ok (names_behind names (line ∷ next ∷ rest), ls)) whole
 
-pub lines_again : (names : Texts) (forms : List LineForm) → AreLines names forms → last_line forms ≡ Some end → bytes_on names [] (lines_written forms) ≡ Ok (names_behind names forms, forms)
+pub lines_again : (names : Texts) (forms : List LineForm) → AreModuleLines names forms → last_line forms ≡ Some end → bytes_on names [] (lines_written forms) ≡ Ok (names_behind names forms, forms)
 lines_again names [] follow closed = absurd cc
 lines_again names (line ∷ forms) follow closed =
     let whole = line ∷ forms in
@@ -259,13 +259,13 @@ lines_again names (line ∷ forms) follow closed =
 -- what is read of bytes
 pub record IsRead (names : Texts) (bytes : List ℕ) (named : Texts) (forms : List LineForm) : Type 0 where
   pub spelled : bytes ≡ lines_written forms
-  pub faultless : AreLines names forms
+  pub faultless : AreModuleLines names forms
   pub closed : last_line forms ≡ Some end
   pub names_are : named ≡ names_behind names forms
 
 pub bytes_are_read : (names : Texts) (bytes : List ℕ) (named : Texts) (forms : List LineForm) → bytes_on names [] bytes ≡ Ok (named, forms) → IsRead names bytes named forms
 bytes_are_read names bytes named forms e =
-    let is = text_is_read names [] (lines_of bytes).ended (lines_of bytes).tail named forms e in
+    let is = text_is_read names [] (lines_of_text bytes).ended (lines_of_text bytes).tail named forms e in
     let same : is.more ≡ forms = sym is.whole in
     record {
       spelled = sym (joined_lines bytes) ∙ (λ i. joined (is.texts i) (is.no_tail i)) ∙ joined_forms is.more [] ∙ append-nil (lines_written is.more) ∙ ap lines_written same;
@@ -278,9 +278,9 @@ bytes_are_read names bytes named forms e =
 
 -- what stops a reading at a line
 data FrontFault (names : Texts) (before : List LineForm) (tail : List ℕ) : Texts → LineFault → Type 0 where
-  no_line_feed : (is_end [] tail ≡ true → before ≡ []) → FrontFault names before tail [] faults.Syntax
-  no_end : (text : List ℕ) (others : Texts) → is_end others tail ≡ true → bytes_eq text (codes "end") ≡ false → FrontFault names before tail (text ∷ others) faults.Syntax
-  refused : (text : List ℕ) (others : Texts) (fault : LineFault) → (is_end others tail && not (bytes_eq text (codes "end"))) ≡ false → line_step names before text ≡ Err fault → FrontFault names before tail (text ∷ others) fault
+  no_line_feed : (has_no_line [] tail ≡ true → before ≡ []) → FrontFault names before tail [] faults.Syntax
+  no_end : (text : List ℕ) (others : Texts) → has_no_line others tail ≡ true → bytes_eq text (codes "end") ≡ false → FrontFault names before tail (text ∷ others) faults.Syntax
+  refused : (text : List ℕ) (others : Texts) (fault : LineFault) → (has_no_line others tail && not (bytes_eq text (codes "end"))) ≡ false → line_step names before text ≡ Err fault → FrontFault names before tail (text ∷ others) fault
 
 -- what a reading that stopped tells
 record IsStopped (names : Texts) (before : List LineForm) (ended : Texts) (tail : List ℕ) (stop : LineStop) : Type 0 where
@@ -306,7 +306,7 @@ stops_here names before ended tail fault stop here e =
       here = subst (λ b. FrontFault names b tail ended stop.fault) (sym (append-nil before)) (subst (FrontFault names before tail ended) (ap (λ (s : LineStop). s.fault) same) here);
     }
 
-never_last : (before : List LineForm) (line : LineForm) (others : Texts) (tail : List ℕ) → is_end others tail ≡ false → is_end others tail ≡ true → before ++ line ∷ [] ≡ []
+never_last : (before : List LineForm) (line : LineForm) (others : Texts) (tail : List ℕ) → has_no_line others tail ≡ false → has_no_line others tail ≡ true → before ++ line ∷ [] ≡ []
 never_last before line others tail further last = absurd cc
 
 module _ (names : Texts) (before : List LineForm) (text : List ℕ) (others : Texts) (tail : List ℕ) (stop : LineStop) where
@@ -323,20 +323,20 @@ module _ (names : Texts) (before : List LineForm) (text : List ℕ) (others : Te
         here = subst (λ p. FrontFault p.0 p.1 tail rest.left stop.fault) (pair_is (names_behind n rest.more) (r ++ rest.more) (names_behind (names_after names step.line) rest.more) (before ++ step.line ∷ rest.more) (ap (λ ns. names_behind ns rest.more) step.names_are) whole) rest.here;
       }
 
-  step_stops : (s : Step) → ((n : Texts) (r : List LineForm) → (is_end others tail ≡ true → r ≡ []) → text_on n r others tail ≡ Err stop → IsStopped n r others tail stop) → line_step names before text ≡ s → (is_end others tail && not (bytes_eq text (codes "end"))) ≡ false → go_on (length before) s (λ n r. cond (is_end others tail) (Ok (n, r)) (text_on n r others tail)) ≡ Err stop → IsStopped names before (text ∷ others) tail stop
+  step_stops : (s : Step) → ((n : Texts) (r : List LineForm) → (has_no_line others tail ≡ true → r ≡ []) → text_on n r others tail ≡ Err stop → IsStopped n r others tail stop) → line_step names before text ≡ s → (has_no_line others tail && not (bytes_eq text (codes "end"))) ≡ false → go_on (length before) s (λ n r. cond (has_no_line others tail) (Ok (n, r)) (text_on n r others tail)) ≡ Err stop → IsStopped names before (text ∷ others) tail stop
   step_stops (Err fault) again is goes h = stops_here names before (text ∷ others) tail fault stop (refused text others fault goes is) h
   step_stops (Ok x) again is goes h =
       let step = step_is names before text x.0 x.1 is in
-      elim (is_end others tail) as (λ t. is_end others tail ≡ t → cond {A = Read} t (Ok (x.0, x.1)) (text_on x.0 x.1 others tail) ≡ Err stop → IsStopped names before (text ∷ others) tail stop) [
+      elim (has_no_line others tail) as (λ t. has_no_line others tail ≡ t → cond {A = Read} t (Ok (x.0, x.1)) (text_on x.0 x.1 others tail) ≡ Err stop → IsStopped names before (text ∷ others) tail stop) [
         | true ↦ λ _ k. absurd cc
         | false ↦ λ further k. stops_later x.0 x.1 step (again x.0 x.1 (λ yes. step.lines_are ∙ never_last before step.line others tail further yes) k)
       ] refl h
 
-text_is_stopped : (names : Texts) (before : List LineForm) (ended : Texts) (tail : List ℕ) (stop : LineStop) → (is_end ended tail ≡ true → before ≡ []) → text_on names before ended tail ≡ Err stop → IsStopped names before ended tail stop
+text_is_stopped : (names : Texts) (before : List LineForm) (ended : Texts) (tail : List ℕ) (stop : LineStop) → (has_no_line ended tail ≡ true → before ≡ []) → text_on names before ended tail ≡ Err stop → IsStopped names before ended tail stop
 text_is_stopped names before [] tail stop opens e = stops_here names before [] tail faults.Syntax stop (no_line_feed opens) e
 text_is_stopped names before (text ∷ others) tail stop opens e =
-    elim (is_end others tail && not (bytes_eq text (codes "end"))) as (λ t. (is_end others tail && not (bytes_eq text (codes "end"))) ≡ t → cond {A = Read} t (stop_at (length before) faults.Syntax) (go_on (length before) (line_step names before text) (λ n r. cond (is_end others tail) (Ok (n, r)) (text_on n r others tail))) ≡ Err stop → IsStopped names before (text ∷ others) tail stop) [
-      | true ↦ λ early h. stops_here names before (text ∷ others) tail faults.Syntax stop (no_end text others (both_true_first (is_end others tail) (bytes_eq text (codes "end")) early) (both_true_second (is_end others tail) (bytes_eq text (codes "end")) early)) h
+    elim (has_no_line others tail && not (bytes_eq text (codes "end"))) as (λ t. (has_no_line others tail && not (bytes_eq text (codes "end"))) ≡ t → cond {A = Read} t (stop_at (length before) faults.Syntax) (go_on (length before) (line_step names before text) (λ n r. cond (has_no_line others tail) (Ok (n, r)) (text_on n r others tail))) ≡ Err stop → IsStopped names before (text ∷ others) tail stop) [
+      | true ↦ λ early h. stops_here names before (text ∷ others) tail faults.Syntax stop (no_end text others (both_true_first (has_no_line others tail) (bytes_eq text (codes "end")) early) (both_true_second (has_no_line others tail) (bytes_eq text (codes "end")) early)) h
       | false ↦ λ goes h. step_stops names before text others tail stop (line_step names before text) (λ n r opens_too. text_is_stopped n r others tail stop opens_too) refl goes h
     ] refl e
 
@@ -355,13 +355,13 @@ before_lack : (b : ℕ) (ended : Texts) (tail : List ℕ) → (b == 10) ≡ fals
 before_lack b [] tail other all last = record { ended = tt; tail = lacks-cons 10 b tail other last }
 before_lack b (line ∷ others) tail other all last = record { ended = (lacks-cons 10 b line other all.0, all.1); tail = last }
 
-lines_lack : (bytes : List ℕ) → LinesLack (lines_of bytes)
+lines_lack : (bytes : List ℕ) → LinesLack (lines_of_text bytes)
 lines_lack [] = record { ended = tt; tail = refl }
 lines_lack (b ∷ bs) =
     let rest = lines_lack bs in
-    elim (b == 10) as (λ (t : Bool). (b == 10) ≡ t → LinesLack (cond t (lines ([] ∷ (lines_of bs).ended) (lines_of bs).tail) (before_lines b (lines_of bs).ended (lines_of bs).tail))) [
+    elim (b == 10) as (λ (t : Bool). (b == 10) ≡ t → LinesLack (cond t (lines ([] ∷ (lines_of_text bs).ended) (lines_of_text bs).tail) (before_lines b (lines_of_text bs).ended (lines_of_text bs).tail))) [
       | true ↦ λ _. record { ended = (refl, rest.ended); tail = rest.tail }
-      | false ↦ λ other. before_lack b (lines_of bs).ended (lines_of bs).tail other rest.ended rest.tail
+      | false ↦ λ other. before_lack b (lines_of_text bs).ended (lines_of_text bs).tail other rest.ended rest.tail
     ] refl
 
 left_lack : (xs ys : Texts) → AllLack (xs ++ ys) → AllLack ys
@@ -370,10 +370,10 @@ left_lack (x ∷ xs) ys all = left_lack xs ys all.1
 
 -- ---- the first fault, both ways
 
-ended_none : (tail : List ℕ) → tail ≡ [] → is_end [] tail ≡ true
-ended_none tail none = ap (is_end []) none
+ended_none : (tail : List ℕ) → tail ≡ [] → has_no_line [] tail ≡ true
+ended_none tail none = ap (has_no_line []) none
 
-nothing_joined : (others : Texts) (tail : List ℕ) → joined others tail ≡ [] → is_end others tail ≡ true
+nothing_joined : (others : Texts) (tail : List ℕ) → joined others tail ≡ [] → has_no_line others tail ≡ true
 unfolding joined
 nothing_joined [] tail none = ended_none tail none
 nothing_joined ([] ∷ others) tail none = absurd cc
@@ -389,13 +389,13 @@ front_fault names before tail _ _ tail_lacks all (no_end text others last other)
     let left = nothing_left others tail last in
     stops text all.0 (λ i. text ++ 10 ∷ joined (left.0 i) (left.1 i)) (differs text other)
 front_fault names before tail _ _ tail_lacks all (refused text others fault goes step) =
-    faulty text (joined others tail) fault all.0 refl (λ none. bytes_are text (codes "end") (both_false (is_end others tail) (bytes_eq text (codes "end")) (nothing_joined others tail none) goes)) (step_fault names before text fault step)
+    faulty text (joined others tail) fault all.0 refl (λ none. bytes_are text (codes "end") (both_false (has_no_line others tail) (bytes_eq text (codes "end")) (nothing_joined others tail none) goes)) (step_fault names before text fault step)
 
 -- what stops a reading is the first fault
 pub first_fault : (names : Texts) (bytes : List ℕ) (stop : LineStop) → bytes_on names [] bytes ≡ Err stop → FirstFault names bytes stop.number stop.fault
 first_fault names bytes stop e =
-    let ended = (lines_of bytes).ended in
-    let tail = (lines_of bytes).tail in
+    let ended = (lines_of_text bytes).ended in
+    let tail = (lines_of_text bytes).tail in
     let is = text_is_stopped names [] ended tail stop (λ _. refl) e in
     let lack = lines_lack bytes in
     record {
@@ -407,12 +407,12 @@ first_fault names bytes stop e =
       here = front_fault (names_behind names is.more) is.more tail is.left stop.fault lack.tail (left_lack (map line_written is.more) is.left (subst AllLack is.texts lack.ended)) is.here;
     }
 
-further_end : (more : List LineForm) (left : Texts) (tail : List ℕ) → is_end left tail ≡ false → is_end (map line_written more ++ left) tail ≡ false
+further_end : (more : List LineForm) (left : Texts) (tail : List ℕ) → has_no_line left tail ≡ false → has_no_line (map line_written more ++ left) tail ≡ false
 further_end [] left tail h = h
 further_end (line ∷ more) left tail h = refl
 
 -- lines in a row are read, where more follows them
-run_on : (names : Texts) (before more : List LineForm) (left : Texts) (tail : List ℕ) → FollowOn names before more → is_end left tail ≡ false → text_on names before (map line_written more ++ left) tail ≡ text_on (names_behind names more) (before ++ more) left tail
+run_on : (names : Texts) (before more : List LineForm) (left : Texts) (tail : List ℕ) → FollowOn names before more → has_no_line left tail ≡ false → text_on names before (map line_written more ++ left) tail ≡ text_on (names_behind names more) (before ++ more) left tail
 run_on names before [] left tail follow further = ap (λ b. text_on names b left tail) (sym (append-nil before))
 run_on names before (line ∷ more) left tail follow further =
     let others = map line_written more ++ left in
@@ -422,27 +422,27 @@ run_on names before (line ∷ more) left tail follow further =
     ∙ ap (λ b. text_on (names_behind names (line ∷ more)) b left tail) (append_assoc before (line ∷ []) more)
 
 module _ (names : Texts) (forms : List LineForm) (bytes : List ℕ) where
-  run_to : (rest : List ℕ) → bytes ≡ lines_written forms ++ rest → AreLines names forms → bytes_on names [] bytes ≡ text_on names [] (map line_written forms ++ (lines_of rest).ended) (lines_of rest).tail
+  run_to : (rest : List ℕ) → bytes ≡ lines_written forms ++ rest → AreModuleLines names forms → bytes_on names [] bytes ≡ text_on names [] (map line_written forms ++ (lines_of_text rest).ended) (lines_of_text rest).tail
   run_to rest cut follow = ap (bytes_on names []) cut ∙ ap (λ (w : Lines). text_on names [] w.ended w.tail) (lines_of_forms names [] forms rest follow)
 
   -- the reading of what follows lines in a row
-  run_behind : (rest : List ℕ) → bytes ≡ lines_written forms ++ rest → AreLines names forms → is_end (lines_of rest).ended (lines_of rest).tail ≡ false → bytes_on names [] bytes ≡ bytes_on (names_behind names forms) forms rest
-  run_behind rest cut follow further = run_to rest cut follow ∙ run_on names [] forms (lines_of rest).ended (lines_of rest).tail follow further
+  run_behind : (rest : List ℕ) → bytes ≡ lines_written forms ++ rest → AreModuleLines names forms → has_no_line (lines_of_text rest).ended (lines_of_text rest).tail ≡ false → bytes_on names [] bytes ≡ bytes_on (names_behind names forms) forms rest
+  run_behind rest cut follow further = run_to rest cut follow ∙ run_on names [] forms (lines_of_text rest).ended (lines_of_text rest).tail follow further
 
-  unended_again : (rest : List ℕ) → bytes ≡ lines_written forms ++ rest → AreLines names forms → lacks 10 rest ≡ true → (rest ≡ [] → forms ≡ []) → bytes_on names [] bytes ≡ stop_at (length forms) faults.Syntax
+  unended_again : (rest : List ℕ) → bytes ≡ lines_written forms ++ rest → AreModuleLines names forms → lacks 10 rest ≡ true → (rest ≡ [] → forms ≡ []) → bytes_on names [] bytes ≡ stop_at (length forms) faults.Syntax
   unended_again [] cut follow lacking opens =
       let none = opens refl in
       let empty : bytes ≡ [] = cut ∙ ap (λ fs. lines_written fs ++ []) none in
       ap (bytes_on names []) empty ∙ ap (λ (fs : List LineForm). stop_at (length fs) faults.Syntax) (sym none)
   unended_again (b ∷ rest) cut follow lacking opens =
       let tail = lines_of_tail (b ∷ rest) lacking in
-      run_behind (b ∷ rest) cut follow (ap (λ (w : Lines). is_end w.ended w.tail) tail)
+      run_behind (b ∷ rest) cut follow (ap (λ (w : Lines). has_no_line w.ended w.tail) tail)
       ∙ ap (λ (w : Lines). text_on (names_behind names forms) forms w.ended w.tail) tail
 
-  front_again : (rest text behind : List ℕ) → bytes ≡ lines_written forms ++ rest → AreLines names forms → lacks 10 text ≡ true → rest ≡ text ++ 10 ∷ behind → bytes_on names [] bytes ≡ front_read (names_behind names forms) forms text behind
+  front_again : (rest text behind : List ℕ) → bytes ≡ lines_written forms ++ rest → AreModuleLines names forms → lacks 10 text ≡ true → rest ≡ text ++ 10 ∷ behind → bytes_on names [] bytes ≡ front_read (names_behind names forms) forms text behind
   front_again rest text behind cut follow lacking at =
-      let first = ap lines_of at ∙ lines_behind text behind lacking in
-      run_behind rest cut follow (ap (λ (w : Lines). is_end w.ended w.tail) first)
+      let first = ap lines_of_text at ∙ lines_behind text behind lacking in
+      run_behind rest cut follow (ap (λ (w : Lines). has_no_line w.ended w.tail) first)
       ∙ bytes_on-cut (names_behind names forms) forms rest text behind (ap (cut_at 10) at ∙ cut_here 10 text behind lacking)
 
 other_text : (text : List ℕ) → (text ≡ codes "end" → ⊥) → bytes_eq text (codes "end") ≡ false
@@ -455,7 +455,7 @@ goes_by : (text behind : List ℕ) → (behind ≡ [] → text ≡ codes "end") 
 goes_by text [] ends = ap (λ t. not (bytes_eq t (codes "end"))) (ends refl)
 goes_by text (b ∷ behind) ends = let some : (suc (length behind) == 0) ≡ false = grind (arith, nat_tests) in ap (λ t. t && not (bytes_eq text (codes "end"))) some
 
-fault_at_front : (names : Texts) (forms : List LineForm) (bytes rest : List ℕ) (fault : LineFault) → bytes ≡ lines_written forms ++ rest → AreLines names forms → FaultAtFront (names_behind names forms) forms rest fault → bytes_on names [] bytes ≡ stop_at (length forms) fault
+fault_at_front : (names : Texts) (forms : List LineForm) (bytes rest : List ℕ) (fault : LineFault) → bytes ≡ lines_written forms ++ rest → AreModuleLines names forms → FaultAtFront (names_behind names forms) forms rest fault → bytes_on names [] bytes ≡ stop_at (length forms) fault
 fault_at_front names forms bytes rest _ cut follow (unended lacking opens) = unended_again names forms bytes rest cut follow lacking opens
 fault_at_front names forms bytes rest _ cut follow (stops text lacking at other) =
     front_again names forms bytes rest text [] cut follow lacking at
@@ -470,7 +470,7 @@ pub fault_again : (names : Texts) (bytes : List ℕ) (number : ℕ) (fault : Lin
 fault_again names bytes number fault is = fault_at_front names is.lines bytes is.rest fault is.cut is.faultless is.here ∙ ap (λ n. stop_at n fault) (sym is.counted)
 
 -- the first line of a module is its title
-pub titled_is : (names : Texts) (forms : List LineForm) → AreLines names forms → last_line forms ≡ Some end → IsTitled forms
+pub titled_is : (names : Texts) (forms : List LineForm) → AreModuleLines names forms → last_line forms ≡ Some end → IsTitled forms
 titled_is names [] follow closed = absurd cc
 titled_is names (title name version ∷ lines) follow closed = tt
 titled_is names forms follow closed = absurd (let place = follow.0.stands.place in cc)

@@ -16,7 +16,7 @@ pub use Rattle.term_core.specs.Names.{is_atom_text, IsNames, is_name_byte, numbe
 pub use Rattle.term_core.specs.Plain.{plain, term_of}
 pub use Rattle.term_core.specs.TermForms.{is_bracketed, is_term_text, is_complex_text}
 pub use Rattle.term_core.specs.TermText.{atom_text, names_with_all, number_in, IsTerm, term_text}
-pub use Rattle.term_core.specs.Text.Cuts.{cut_at, Lines, lines, before_lines, lines_of}
+pub use Rattle.term_core.specs.Text.Cuts.{cut_at, Lines, lines, before_lines, lines_of_text}
 pub use Rattle.term_core.specs.Text.Numbers.{number_value, is_number_text}
-pub use Rattle.term_core.specs.Text.Steps.{tested, ◌>>=◌}
+pub use Rattle.term_core.specs.Text.Steps.{text_tested, ◌>>=◌}
 pub use Rattle.term_core.specs.Written.{IsTermInteger, is_integer_text, is_positive_text, integer_of, is_term_integer}

@@ -4,32 +4,30 @@
 use Rattle.std.specs.Prelude.{ℕ, ◌+◌, ◌==◌, Bool, false, List, [], ◌∷◌, ◌++◌, codes, Option, Some, None, slice_get, decimal, if◌then◌else◌}
 use Rattle.std.specs.List.{flat_map, list_any}
 use Rattle.std.specs.Fmt.{signed_decimal}
-use Rattle.term_core.specs.declared.term.Term.{Term}
-use Rattle.term_core.specs.declared.term.Term.TheVariants.{Int, Atom, Tuple, List as ListOf}
-use Rattle.term_core.specs.TermText.{atom_text, term_text}
+use Rattle.term_core.specs.Plain.{plain}
+use Rattle.term_core.specs.PlainTerm.{PlainTerm, map_leaves}
+use Rattle.term_core.specs.TermText.{atom_text}
+use Rattle.term_core.specs.Written.{WrittenTerm}
 use Rattle.mod_core.specs.declared.code.Operand.{Operand}
 use Rattle.mod_core.specs.declared.code.Operand.TheVariants.{Reg, Const}
 use Rattle.mod_core.specs.declared.code.Instr.{Instr}
 use Rattle.mod_core.specs.declared.code.Instr.TheVariants.{Move, Add, Sub, Eq, Less, Jump, Call, CallExt, Ret, Pget, PgetOr, Elem, Print, Yield}
 use Rattle.mod_core.specs.declared.code.Function.{Function}
 use Rattle.mod_core.specs.declared.code.Module.{Module}
-use Rattle.mod_text.specs.ModuleLine.{OperandForm, register, integer, atom, complex, InstrForm, move, add, sub, eq, less, jump, call, call_ext, ret, pget, pget_or, elem, print, yield, LineForm, title, header, label, instr, end, function_written}
+use Rattle.mod_text.specs.ModuleLine.{OperandForm, register, constant, InstrForm, move, add, sub, eq, less, jump, call, call_ext, ret, pget, pget_or, elem, print, yield, LineForm, title, header, label, instr, end, function_written}
 
 -- `lN`
 abbrev pub label_text : ℕ → List ℕ
 label_text number = codes "l" ++ decimal number
 
--- a constant, as it is written
-abbrev pub written_constant : List (List ℕ) → Term → OperandForm
-written_constant names (Int z) = integer (signed_decimal z)
-written_constant names (Atom a) = atom (atom_text names a.0)
-written_constant names (Tuple ts) = complex (term_text names (Tuple ts))
-written_constant names (ListOf ts) = complex (term_text names (ListOf ts))
+-- a term, with the texts of its integers and atoms
+abbrev pub term_form : List (List ℕ) → PlainTerm → WrittenTerm
+term_form names term = map_leaves signed_decimal (atom_text names) term
 
 -- an operand, as it is written
 abbrev pub written_operand : List (List ℕ) → Operand → OperandForm
 written_operand names (Reg number) = register (decimal number)
-written_operand names (Const term) = written_constant names term
+written_operand names (Const term) = constant (term_form names (plain term))
 
 -- a call of a function of the module, if there is one
 abbrev pub written_call : List (List ℕ) → Option Function → ℕ → InstrForm

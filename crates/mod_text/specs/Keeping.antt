@@ -2,12 +2,12 @@
 -- labels at hand are those of the lines.
 use Rattle.std.specs.Prelude.{◌≡◌, ℕ, ◌+◌, ◌≤◌, nat_lt, Bool, true, false, Option, Some, None, List, [], ◌∷◌, ◌++◌, length, sum_by, All, Result, Ok, Err, if◌then◌else◌}
 use Rattle.term_core.specs.declared.names.TheConstants.{MOST_NAMES}
-use Rattle.term_core.specs.TermForms.{text_words}
+use Rattle.term_core.specs.PlainTerm.{tuple_of, list_of, term_words}
 use Rattle.term_core.specs.TermText.{names_with_all}
 use Rattle.mod_core.specs.declared.code.TheConstants.{MOST_FUNCTIONS}
 use Rattle.mod_text.specs.declared.fault.LineFault.{LineFault}
 use Rattle.mod_text.specs.declared.fault.LineFault.TheVariants as faults
-use Rattle.mod_text.specs.ModuleLine.{OperandForm, complex, InstrForm, move, add, sub, eq, less, jump, call, call_ext, ret, pget, pget_or, elem, print, yield, LineForm, header, instr, end, is_operand_form, is_instr_form, is_line_form}
+use Rattle.mod_text.specs.ModuleLine.{OperandForm, constant, InstrForm, move, add, sub, eq, less, jump, call, call_ext, ret, pget, pget_or, elem, print, yield, LineForm, header, instr, end, is_operand_form, is_instr_form, is_line_form}
 use Rattle.mod_text.specs.LineFaults.{may_follow, last_line, has_high_operand, has_high_instr, has_high_register, is_wide_operand, has_wide_instr, has_wide_integer, has_long_instr, has_long_term, open_labels, place_fault}
 use Rattle.mod_text.specs.ModuleValue.{HeaderForm, headers_in}
 
@@ -74,7 +74,8 @@ keeping names lines line = keeping_by lines line (place_fault names lines line)
 
 -- an operand that is a tuple or a list has an image of its own behind the code
 abbrev pub operand_form_words : OperandForm → ℕ
-operand_form_words (complex text) = text_words text
+operand_form_words (constant (tuple_of row)) = term_words (tuple_of row)
+operand_form_words (constant (list_of row)) = term_words (list_of row)
 operand_form_words _ = 0
 
 -- an instruction: its number, a word for each operand, target, callee and register, and the images of its tuples and lists

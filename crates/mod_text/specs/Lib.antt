@@ -10,3 +10,4 @@ pub mod ModuleText
 pub mod ModuleValue
 pub mod Reading
 pub mod Settling
+pub mod WrittenCode

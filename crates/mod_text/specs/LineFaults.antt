@@ -1,18 +1,18 @@
 -- What may be wrong with a line of a module's text, after the lines before it: whether it may stand there, and each limit.
 -- Source: this project's module text. The limits are counted over the lines before; the code counts as it goes.
-use Rattle.std.specs.Prelude.{◌≡◌, ℕ, ◌+◌, ◌||◌, not, fold, nat_lt, nat_le, Bool, true, false, List, [], ◌∷◌, ◌++◌, length, Option, Some, None, is_none, bytes_eq, if◌then◌else◌}
+use Rattle.std.specs.Prelude.{◌≡◌, ℕ, ◌+◌, ◌||◌, not, fold, nat_lt, nat_le, Bool, true, false, List, [], ◌∷◌, ◌++◌, length, Option, Some, None, is_none, is_some, bytes_eq, if◌then◌else◌}
 use Rattle.std.specs.List.{list_any}
 use Rattle.term_core.specs.declared.atom.Mfa.{Mfa}
 use Rattle.term_core.specs.declared.names.TheConstants.{MOST_NAMES}
 use Rattle.term_core.specs.declared.term_text.TheConstants.{MOST_WORDS}
-use Rattle.term_core.specs.TermForms.{is_wide_text, term_atoms, text_words}
+use Rattle.term_core.specs.PlainTerm.{atoms_of, term_words}
 use Rattle.term_core.specs.TermText.{names_with_all}
-use Rattle.term_core.specs.Written.{integer_of, is_term_integer}
+use Rattle.term_core.specs.Written.{outside_of}
 use Rattle.mod_core.specs.declared.code.TheConstants.{REGISTERS, MOST_FUNCTIONS, LONGEST_IMAGE}
 use Rattle.mod_text.specs.declared.fault.LineFault.{LineFault}
 use Rattle.mod_text.specs.declared.fault.LineFault.TheVariants as faults
 use Rattle.term_core.specs.Text.Numbers.{number_value}
-use Rattle.mod_text.specs.ModuleLine.{OperandForm, register, integer, atom, complex, InstrForm, move, add, sub, call, call_ext, pget, pget_or, elem, LineForm, title, header, label, instr, end, LineText, operands_of, some_operand}
+use Rattle.mod_text.specs.ModuleLine.{OperandForm, register, constant, InstrForm, move, add, sub, call, call_ext, pget, pget_or, elem, LineForm, title, header, label, instr, end, LineText, operands_of, some_operand}
 use Rattle.mod_text.specs.LineReading.{line_reading}
 use Rattle.mod_core.specs.ModuleImage.{module_image}
 use Rattle.mod_text.specs.ModuleValue.{headers_in, is_header, title_of, module_of, mfa_in}
@@ -44,7 +44,7 @@ may_follow before _ = is_in_function before
 abbrev pub last_line : List LineForm → Option LineForm
 last_line [] = None
 last_line (line ∷ []) = Some line
-last_line (line ∷ next ∷ lines) = last_line (next ∷ lines)
+last_line (line ∷ other ∷ lines) = last_line (other ∷ lines)
 
 -- ---- registers
 
@@ -82,8 +82,7 @@ has_high_register _ = false
 
 -- whether an operand has an integer of more than 60 bits
 abbrev pub is_wide_operand : OperandForm → Bool
-is_wide_operand (integer text) = not (is_term_integer (integer_of text))
-is_wide_operand (complex text) = is_wide_text text
+is_wide_operand (constant term) = is_some (outside_of term)
 is_wide_operand _ = false
 
 -- whether an operand of an instruction is
@@ -99,7 +98,7 @@ has_wide_integer _ = false
 
 -- whether an operand is a term of more than 64 words
 abbrev pub is_long_operand : OperandForm → Bool
-is_long_operand (complex text) = nat_lt MOST_WORDS (text_words text)
+is_long_operand (constant term) = nat_lt MOST_WORDS (term_words term)
 is_long_operand _ = false
 
 -- whether an operand of an instruction is
@@ -115,8 +114,7 @@ has_long_term _ = false
 
 -- the atoms of an operand, in order
 abbrev pub operand_atoms : OperandForm → List (List ℕ)
-operand_atoms (atom text) = text ∷ []
-operand_atoms (complex text) = term_atoms text
+operand_atoms (constant term) = atoms_of term
 operand_atoms _ = []
 
 -- the atoms of operands, in order

@@ -2,13 +2,14 @@
 -- ModuleLine, relate whole lines; the laws that both agree stand in proofs/LineLaws.
 use Rattle.std.specs.Prelude.{ℕ, ◌==◌, Bool, true, false, List, [], ◌∷◌, Option, Some, None, option_map, bytes_eq, codes, if◌then◌else◌}
 use Rattle.term_core.specs.Names.{is_atom_text}
-use Rattle.term_core.specs.TermForms.{is_bracketed, is_term_text}
-use Rattle.term_core.specs.Written.{is_integer_text}
+use Rattle.term_core.specs.PlainTerm.{integer_leaf, atom_leaf}
+use Rattle.term_core.specs.TermForms.{is_bracketed, is_term_text, tree_of}
+use Rattle.term_core.specs.Written.{WrittenTerm, is_integer_text}
 use Rattle.term_core.specs.Text.Numbers.{is_number_text, number_value}
 use Rattle.term_core.specs.Text.Cuts.{cut_at}
 use Rattle.mod_text.specs.Sides.{paired, behind}
-use Rattle.term_core.specs.Text.Steps.{◌>>=◌, tested, numbered_reading}
-use Rattle.mod_text.specs.ModuleLine.{OperandForm, register, integer, atom, complex, InstrForm, move, add, sub, eq, less, jump, call, call_ext, ret, pget, pget_or, elem, print, yield, LineForm, title, header, label, instr, end, is_version_text, is_arity_text, operands_of, each_operand}
+use Rattle.term_core.specs.Text.Steps.{◌>>=◌, text_tested, numbered_reading}
+use Rattle.mod_text.specs.ModuleLine.{OperandForm, register, constant, InstrForm, move, add, sub, eq, less, jump, call, call_ext, ret, pget, pget_or, elem, print, yield, LineForm, title, header, label, instr, end, is_version_text, is_arity_text, operands_of, each_operand}
 
 -- the version that digits write
 abbrev pub version_reading : List ℕ → Option ℕ
@@ -20,18 +21,22 @@ arity_reading text = if is_arity_text text then Some (number_value text) else No
 
 -- the digits of a register
 abbrev pub register_reading : List ℕ → Option (List ℕ)
-register_reading text = behind 36 (tested is_number_text) text
+register_reading text = behind 36 (text_tested is_number_text) text
+
+-- the written term with this text; a text that is no term's is kept as it is, in a leaf that is no integer
+unfoldable pub term_read : List ℕ → WrittenTerm
+term_read text = if is_term_text text then tree_of text else integer_leaf text
 
 -- an operand that is a term; of a tuple or list its first bracket alone is looked at
 abbrev pub constant_reading : List ℕ → Option OperandForm
 constant_reading text =
-    if is_atom_text text then Some (atom text)
-    else (if is_integer_text text then Some (integer text) else option_map (λ t. complex t) (tested is_bracketed text))
+    if is_atom_text text then Some (constant (atom_leaf text))
+    else (if is_integer_text text then Some (constant (integer_leaf text)) else option_map (λ t. constant (term_read t)) (text_tested is_bracketed text))
 
 -- an operand
 abbrev pub operand_reading : List ℕ → Option OperandForm
 operand_reading [] = None
-operand_reading (c ∷ rest) = if c == 36 then option_map (λ digits. register digits) (tested is_number_text rest) else constant_reading (c ∷ rest)
+operand_reading (c ∷ rest) = if c == 36 then option_map (λ digits. register digits) (text_tested is_number_text rest) else constant_reading (c ∷ rest)
 
 -- two operands and a register
 abbrev pub sum_reading : List ℕ → Option (OperandForm × (OperandForm × List ℕ))
@@ -39,11 +44,11 @@ sum_reading words = paired 32 operand_reading (paired 32 operand_reading registe
 
 -- two operands and a label
 abbrev pub branch_reading : List ℕ → Option (OperandForm × (OperandForm × List ℕ))
-branch_reading words = paired 32 operand_reading (paired 32 operand_reading (tested is_atom_text)) words
+branch_reading words = paired 32 operand_reading (paired 32 operand_reading (text_tested is_atom_text)) words
 
 -- a function of another module
 abbrev pub external_reading : List ℕ → Option (List ℕ × (List ℕ × List ℕ))
-external_reading text = paired 58 (tested is_atom_text) (numbered_reading 47 is_arity_text) text
+external_reading text = paired 58 (text_tested is_atom_text) (numbered_reading 47 is_arity_text) text
 
 -- `move`, behind its word
 abbrev pub move_reading : List ℕ → Option InstrForm
@@ -67,7 +72,7 @@ less_reading rest = branch_reading rest >>= λ x. Some (less x.0 x.1.0 x.1.1)
 
 -- `jump`, behind its word
 abbrev pub jump_reading : List ℕ → Option InstrForm
-jump_reading rest = tested is_atom_text rest >>= λ target. Some (jump target)
+jump_reading rest = text_tested is_atom_text rest >>= λ target. Some (jump target)
 
 -- `call`, behind its word
 abbrev pub call_reading : List ℕ → Option InstrForm
@@ -83,11 +88,11 @@ ret_reading rest = operand_reading rest >>= λ value. Some (ret value)
 
 -- `pget`, behind its word
 abbrev pub pget_reading : List ℕ → Option InstrForm
-pget_reading rest = paired 32 (tested is_atom_text) register_reading rest >>= λ p. Some (pget p.0 p.1)
+pget_reading rest = paired 32 (text_tested is_atom_text) register_reading rest >>= λ p. Some (pget p.0 p.1)
 
 -- `pget_or`, behind its word
 abbrev pub pget_or_reading : List ℕ → Option InstrForm
-pget_or_reading rest = paired 32 (tested is_atom_text) (paired 32 operand_reading register_reading) rest >>= λ p. Some (pget_or p.0 p.1.0 p.1.1)
+pget_or_reading rest = paired 32 (text_tested is_atom_text) (paired 32 operand_reading register_reading) rest >>= λ p. Some (pget_or p.0 p.1.0 p.1.1)
 
 -- `elem`, behind its word
 abbrev pub elem_reading : List ℕ → Option InstrForm
@@ -121,7 +126,7 @@ lone_reading word = if bytes_eq word (codes "yield") then Some (instr yield) els
 
 -- the name of a label
 abbrev pub label_reading : List ℕ → Option LineForm
-label_reading rest = tested is_atom_text rest >>= λ name. Some (label name)
+label_reading rest = text_tested is_atom_text rest >>= λ name. Some (label name)
 
 -- a module's name and version, as `m.1`
 abbrev pub title_reading : List ℕ → Option LineForm
@@ -153,9 +158,9 @@ parts_reading text (Some parts) = keyed_reading parts.0 parts.1
 abbrev pub line_split : List ℕ → Option LineForm
 line_split text = parts_reading text (cut_at 32 text)
 
--- whether an operand that begins with a bracket is a term's text
+-- whether an operand that begins with a bracket is a term: what is kept of another text is no integer
 abbrev pub is_sound_operand : OperandForm → Bool
-is_sound_operand (complex text) = is_term_text text
+is_sound_operand (constant (integer_leaf text)) = is_integer_text text
 is_sound_operand _ = true
 
 -- whether each operand of an instruction is that begins with a bracket
@@ -167,7 +172,7 @@ abbrev pub has_sound_terms : LineForm → Bool
 has_sound_terms (instr i) = has_sound_operands i
 has_sound_terms _ = true
 
--- the line, where each of its tuples and lists is a term's text
+-- the line, where each of its tuples and lists is a term
 abbrev pub sound_reading : Option LineForm → Option LineForm
 sound_reading None = None
 sound_reading (Some line) = if has_sound_terms line then Some line else None

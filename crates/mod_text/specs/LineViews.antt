@@ -1,21 +1,32 @@
 -- The forms of lines whose words are slices of a text, and of the texts of lines.
-use Rattle.std.specs.Prelude.{ℕ, List, map, unwrap_or}
+use Rattle.std.specs.Prelude.{ℕ, ◌||◌, not, List, [], map, unwrap_or, if◌then◌else◌}
 use Rattle.std.specs.Borrow.{Bor}
+use Rattle.term_core.specs.PlainTerm.{integer_leaf, atom_leaf}
+use Rattle.term_core.specs.TermForms.{is_bracketed, is_term_text}
+use Rattle.term_core.specs.Written.{is_integer_text}
 use Rattle.mod_text.specs.declared.written.WrittenOperand.{WrittenOperand}
 use Rattle.mod_text.specs.declared.written.WrittenOperand.TheVariants.{Register, Integer, Atom, Complex}
 use Rattle.mod_text.specs.declared.written.WrittenInstr.{WrittenInstr}
 use Rattle.mod_text.specs.declared.written.WrittenInstr.TheVariants.{Move, Add, Sub, Eq, Less, Jump, Call, CallExt, Ret, Pget, PgetOr, Elem, Print, Yield}
 use Rattle.mod_text.specs.declared.written.WrittenLine.{WrittenLine}
 use Rattle.mod_text.specs.declared.written.WrittenLine.TheVariants.{Title, Header, Label, Instr, End}
-use Rattle.mod_text.specs.LineReading.{line_split}
-use Rattle.mod_text.specs.ModuleLine.{OperandForm, register, integer, atom, complex, InstrForm, move, add, sub, eq, less, jump, call, call_ext, ret, pget, pget_or, elem, print, yield, LineForm, title, header, label, instr, end}
+use Rattle.mod_text.specs.LineReading.{term_read, line_split}
+use Rattle.mod_text.specs.ModuleLine.{OperandForm, register, constant, InstrForm, move, add, sub, eq, less, jump, call, call_ext, ret, pget, pget_or, elem, print, yield, LineForm, title, header, label, instr, end}
 
--- the form of an operand: its words as bytes
+-- an integer, by its text; of a text that is none, an operand that is none
+unfoldable pub integer_form : List ℕ → OperandForm
+integer_form text = if is_integer_text text then constant (integer_leaf text) else register []
+
+-- a tuple or a list, by its text; of the text of an integer or an atom, an operand that is none
+unfoldable pub complex_form : List ℕ → OperandForm
+complex_form text = if is_bracketed text || not (is_term_text text) then constant (term_read text) else register []
+
+-- the form of an operand: its digits as bytes, and a constant as a written term
 abbrev pub operand_form : WrittenOperand → OperandForm
 operand_form (Register digits) = register digits.now
-operand_form (Integer text) = integer text.now
-operand_form (Atom text) = atom text.now
-operand_form (Complex text) = complex text.now
+operand_form (Integer text) = integer_form text.now
+operand_form (Atom text) = constant (atom_leaf text.now)
+operand_form (Complex text) = complex_form text.now
 
 -- the form of an instruction
 abbrev pub instr_form : WrittenInstr → InstrForm

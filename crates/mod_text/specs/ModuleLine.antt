@@ -3,17 +3,15 @@
 use Rattle.std.specs.Prelude.{◌≡◌, ℕ, ◌&&◌, ◌||◌, nat_le, Bool, true, false, List, [], ◌∷◌, ◌++◌, IsTrue, codes}
 use Rattle.std.specs.List.{flat_map}
 use Rattle.term_core.specs.Names.{is_atom_text}
-use Rattle.term_core.specs.TermForms.{is_complex_text}
-use Rattle.term_core.specs.Written.{is_integer_text}
+use Rattle.term_core.specs.PlainTerm.{TermOf, RowOf, integer_leaf, atom_leaf, tuple_of, list_of, no_terms, term_then}
+use Rattle.term_core.specs.Written.{WrittenTerm, written, is_integer_text}
 use Rattle.term_core.specs.Text.Numbers.{is_number_text, number_value}
 use Rattle.mod_core.specs.declared.code.TheConstants.{MOST_ARGUMENTS, GREATEST_VERSION}
 
--- an operand: a register, by the digits of its number, or a term by its text: an integer, an atom, or a tuple or list
+-- an operand: a register, by the digits of its number, or a term
 pub data OperandForm : Type 0 where
   register : List ℕ → OperandForm
-  integer : List ℕ → OperandForm
-  atom : List ℕ → OperandForm
-  complex : List ℕ → OperandForm
+  constant : WrittenTerm → OperandForm
 
 -- an instruction, in the order of the instructions' numbers; labels and atoms are texts, and arities and registers digits
 pub data InstrForm : Type 0 where
@@ -82,9 +80,7 @@ register_written digits = 36 ∷ digits
 -- the text of an operand
 abbrev pub operand_written : OperandForm → List ℕ
 operand_written (register digits) = register_written digits
-operand_written (integer text) = text
-operand_written (atom text) = text
-operand_written (complex text) = text
+operand_written (constant term) = written term
 
 -- `main/0`
 abbrev pub function_written : List ℕ → List ℕ → List ℕ
@@ -138,12 +134,23 @@ is_version_text text = is_number_text text && (nat_le 1 (number_value text) && n
 abbrev pub is_arity_text : List ℕ → Bool
 is_arity_text text = is_number_text text && nat_le (number_value text) MOST_ARGUMENTS
 
+-- a term, each leaf of which has its text; its integers may be of any size
+abbrev mutual
+  pub is_term_form : TermOf (List ℕ) (List ℕ) → Bool
+  is_term_form (integer_leaf text) = is_integer_text text
+  is_term_form (atom_leaf text) = is_atom_text text
+  is_term_form (tuple_of row) = is_row_form row
+  is_term_form (list_of row) = is_row_form row
+
+  -- the same of a row
+  pub is_row_form : RowOf (List ℕ) (List ℕ) → Bool
+  is_row_form no_terms = true
+  is_row_form (term_then t row) = is_term_form t && is_row_form row
+
 -- an operand; the number of a register and the integers of a term may be of any size here
 abbrev pub is_operand_form : OperandForm → Bool
 is_operand_form (register digits) = is_number_text digits
-is_operand_form (integer text) = is_integer_text text
-is_operand_form (atom text) = is_atom_text text
-is_operand_form (complex text) = is_complex_text text
+is_operand_form (constant term) = is_term_form term
 
 -- a function's name, without its module
 abbrev pub is_function_form : List ℕ → List ℕ → Bool

@@ -23,14 +23,14 @@ names_behind names [] = names
 names_behind names (line ∷ lines) = names_behind (names_after names line) lines
 
 -- under the names before, these lines stand in a row from the title on, and none has a fault
-abbrev pub AreLines : List (List ℕ) → List LineForm → Type 0
-AreLines before lines = FollowOn before [] lines
+abbrev pub AreModuleLines : List (List ℕ) → List LineForm → Type 0
+AreModuleLines before lines = FollowOn before [] lines
 
 -- under the names before, the bytes are the text of this module, and after it the names are these
 pub record ModuleText (before : List (List ℕ)) (bytes : List ℕ) (m : Module) (after : List (List ℕ)) : Type 0 where
   pub lines : List LineForm
   pub spelled : bytes ≡ lines_written lines
-  pub faultless : AreLines before lines
+  pub faultless : AreModuleLines before lines
   pub closed : last_line lines ≡ Some end
   pub settled : unsettled_line lines ≡ None
   pub named : after ≡ names_behind before lines
@@ -56,7 +56,7 @@ pub record FirstFault (before : List (List ℕ)) (bytes : List ℕ) (number : �
   pub lines : List LineForm
   pub rest : List ℕ
   pub cut : bytes ≡ lines_written lines ++ rest
-  pub faultless : AreLines before lines
+  pub faultless : AreModuleLines before lines
   pub counted : number ≡ length lines
   pub here : FaultAtFront (names_behind before lines) lines rest fault
 
@@ -64,7 +64,7 @@ pub record FirstFault (before : List (List ℕ)) (bytes : List ℕ) (number : �
 pub record MissingAt (before : List (List ℕ)) (bytes : List ℕ) (number : ℕ) : Type 0 where
   pub lines : List LineForm
   pub spelled : bytes ≡ lines_written lines
-  pub faultless : AreLines before lines
+  pub faultless : AreModuleLines before lines
   pub closed : last_line lines ≡ Some end
   pub missing : unsettled_line lines ≡ Some number
 

@@ -4,9 +4,8 @@
 use Rattle.std.specs.Prelude.{◌≡◌, ℕ, suc, ◌&&◌, Bool, true, List, [], ◌∷◌, map, Option, Some, None, is_some, option_map, position, unwrap_or, bytes_eq, if◌then◌else◌}
 use Rattle.term_core.specs.declared.atom.AtomId.{AtomId}
 use Rattle.term_core.specs.declared.atom.Mfa.{Mfa}
-use Rattle.term_core.specs.declared.term.Term.TheVariants.{Int, Atom}
 use Rattle.term_core.specs.Plain.{term_of}
-use Rattle.term_core.specs.TermForms.{term_in}
+use Rattle.term_core.specs.PlainTerm.{map_leaves}
 use Rattle.term_core.specs.TermText.{number_in}
 use Rattle.term_core.specs.Written.{integer_of}
 use Rattle.mod_core.specs.declared.code.Operand.{Operand}
@@ -18,7 +17,7 @@ use Rattle.mod_core.specs.declared.code.Module.{Module}
 use Rattle.mod_text.specs.declared.fault.FinishFault.{FinishFault}
 use Rattle.mod_text.specs.declared.fault.FinishFault.TheVariants.{Missing, NoMemory}
 use Rattle.term_core.specs.Text.Numbers.{number_value}
-use Rattle.mod_text.specs.ModuleLine.{OperandForm, register, integer, atom, complex, InstrForm, move, add, sub, eq, less, jump, call, call_ext, ret, pget, pget_or, elem, print, yield, LineForm, title, header, label, instr}
+use Rattle.mod_text.specs.ModuleLine.{OperandForm, register, constant, InstrForm, move, add, sub, eq, less, jump, call, call_ext, ret, pget, pget_or, elem, print, yield, LineForm, title, header, label, instr}
 
 -- a function as it is written: its header and the lines below it
 pub record FunctionForm : Type 0 where
@@ -75,9 +74,7 @@ atom_in names text = record { 0 = number_in names text }
 -- the operand that is written so
 abbrev pub operand_in : List (List ℕ) → OperandForm → Operand
 operand_in names (register digits) = Reg (number_value digits)
-operand_in names (integer text) = Const (Int (integer_of text))
-operand_in names (atom text) = Const (Atom (atom_in names text))
-operand_in names (complex text) = Const (term_of (term_in names text))
+operand_in names (constant term) = Const (term_of (map_leaves integer_of (number_in names) term))
 
 -- the name of an external function that is written so
 abbrev pub mfa_in : List (List ℕ) → List ℕ → List ℕ → List ℕ → Mfa

@@ -1,7 +1,7 @@
 -- The order in which the lines of a module's text are read and judged. The relation of whole texts and modules, in ModuleText, is
 -- shown to agree with it.
 use Rattle.std.specs.Prelude.{◌≡◌, ℕ, ◌==◌, ◌&&◌, not, Bool, true, false, List, [], ◌∷◌, ◌++◌, length, Option, Some, None, Result, Ok, Err, bytes_eq, codes, if◌then◌else◌}
-use Rattle.term_core.specs.Text.Cuts.{lines, lines_of}
+use Rattle.term_core.specs.Text.Cuts.{lines, lines_of_text}
 use Rattle.mod_text.specs.declared.fault.LineFault.{LineFault}
 use Rattle.mod_text.specs.declared.fault.LineFault.TheVariants as faults
 use Rattle.mod_text.specs.declared.fault.LineStop.{LineStop}
@@ -50,10 +50,10 @@ abbrev pub stop_at : ℕ → LineFault → Read
 stop_at number fault = Err (record { number = number; fault = fault })
 
 -- nothing is left
-abbrev pub is_end : List (List ℕ) → List ℕ → Bool
-is_end [] [] = true
-is_end [] (b ∷ tail) = false
-is_end (line ∷ others) tail = false
+abbrev pub has_no_line : List (List ℕ) → List ℕ → Bool
+has_no_line [] [] = true
+has_no_line [] (b ∷ tail) = false
+has_no_line (line ∷ others) tail = false
 
 -- what follows a line that was judged as the one of this number
 abbrev pub go_on : ℕ → Step → (List (List ℕ) → List LineForm → Read) → Read
@@ -64,12 +64,12 @@ go_on number (Err fault) more = stop_at number fault
 abbrev pub text_on : List (List ℕ) → List LineForm → List (List ℕ) → List ℕ → Read
 text_on names before [] tail = stop_at (length before) faults.Syntax
 text_on names before (text ∷ others) tail =
-    if is_end others tail && not (bytes_eq text (codes "end")) then stop_at (length before) faults.Syntax
-    else go_on (length before) (line_step names before text) (λ named read. if is_end others tail then Ok (named, read) else text_on named read others tail)
+    if has_no_line others tail && not (bytes_eq text (codes "end")) then stop_at (length before) faults.Syntax
+    else go_on (length before) (line_step names before text) (λ named read. if has_no_line others tail then Ok (named, read) else text_on named read others tail)
 
 -- the lines of a text, behind those so far
 abbrev pub bytes_on : List (List ℕ) → List LineForm → List ℕ → Read
-bytes_on names before bytes = text_on names before (lines_of bytes).ended (lines_of bytes).tail
+bytes_on names before bytes = text_on names before (lines_of_text bytes).ended (lines_of_text bytes).tail
 
 -- a text is read to its end, or goes on so
 abbrev pub read_behind : List (List ℕ) → List LineForm → List ℕ → Read

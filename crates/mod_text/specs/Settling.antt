@@ -15,16 +15,16 @@ abbrev pub Places : Type 0
 Places = HashMap (Bor (List ℕ)) ℕ (BuildHasherDefault FoldHasher)
 
 -- the number that a label has
-abbrev pub place_in : Places → List ℕ → Option ℕ
-place_in places wanted = get_by (λ name. bytes_eq wanted name.now) places
+abbrev pub label_place : Places → List ℕ → Option ℕ
+label_place places wanted = get_by (λ name. bytes_eq wanted name.now) places
 
 -- the labels are those of the function with this body
 abbrev pub ArePlaces : Places → List LineForm → Type 0
-ArePlaces places body = (wanted : List ℕ) → place_in places wanted ≡ label_number wanted body
+ArePlaces places body = (wanted : List ℕ) → label_place places wanted ≡ label_number wanted body
 
 -- a label more has this number, unless it had one
 abbrev pub HasPlace : Places → Places → List ℕ → ℕ → Type 0
-HasPlace old new name number = (wanted : List ℕ) → place_in new wanted ≡ earlier (place_in old wanted) (if bytes_eq name wanted then Some number else None)
+HasPlace old new name number = (wanted : List ℕ) → label_place new wanted ≡ earlier (label_place old wanted) (if bytes_eq name wanted then Some number else None)
 
 -- the number that a line gives to a label, behind so many instructions
 abbrev pub label_at : ℕ → List ℕ → LineForm → Option ℕ
@@ -33,7 +33,7 @@ label_at number wanted _ = None
 
 -- the labels after a line, behind so many instructions
 abbrev pub TakesLine : Places → Places → ℕ → LineForm → Type 0
-TakesLine old new number line = (wanted : List ℕ) → place_in new wanted ≡ earlier (place_in old wanted) (label_at number wanted line)
+TakesLine old new number line = (wanted : List ℕ) → label_place new wanted ≡ earlier (label_place old wanted) (label_at number wanted line)
 
 -- how many instructions are before the next line
 abbrev pub number_after : ℕ → LineForm → ℕ

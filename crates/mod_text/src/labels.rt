@@ -2,7 +2,7 @@
 
 ghost use Rattle.std.specs.Prelude.{◌≡◌, OnOk, IfOk};
 ghost use Rattle.mod_text.specs.LineViews.{text_form, forms_of};
-ghost use Rattle.mod_text.specs.Settling.{ArePlaces, HasPlace, TakesLine, number_after, place_in};
+ghost use Rattle.mod_text.specs.Settling.{ArePlaces, HasPlace, TakesLine, number_after, label_place};
 
 use crate::line::line_of;
 use crate::written::WrittenLine;
@@ -15,7 +15,7 @@ pub type Places<'a> = HashMap<&'a [u8], u32>;
 
 /// The number of the instruction that a label names, if it is a label.
 pub fn place_of(places: &Places<'_>, label: &[u8]) -> Option<u32>
-    ensures { result ≡ place_in places.now label.now }
+    ensures { result ≡ label_place places.now label.now }
 {
     places.get(label).copied()
 }

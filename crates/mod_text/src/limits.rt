@@ -1,7 +1,8 @@
 //! What a line may be, alone and behind another.
 
-ghost use Rattle.std.specs.Prelude.{◌≡◌, ◌≤◌, false, All, IsTrue, option_map, nat_le};
-ghost use Rattle.mod_text.specs.LineViews.{operand_form, instr_form, line_form, text_form, forms_of};
+ghost use Rattle.std.specs.Prelude.{◌≡◌, ◌≤◌, not, false, All, IsTrue, option_map, nat_le};
+ghost use Rattle.term_core.specs.Written.{is_integer_text, is_term_integer, integer_of};
+ghost use Rattle.mod_text.specs.LineViews.{operand_form, integer_form, complex_form, instr_form, line_form, text_form, forms_of};
 ghost use Rattle.term_core.specs.Text.Numbers.{is_number_text};
 ghost use Rattle.mod_text.specs.ModuleLine.{is_operand_form, is_instr_form, is_line_form};
 ghost use Rattle.mod_text.specs.LineFaults.{is_open, is_in_function, may_follow, is_high, has_high_operand, is_high_call, has_high_instr, has_high_register, is_wide_operand, has_wide_instr, has_wide_integer, is_long_operand, has_long_instr, has_long_term};
@@ -54,6 +55,7 @@ fn is_high(digits: &[u8]) -> bool
     }
 }
 
+#[tactic(auto, using(crate::proofs::WrittenTerms::low_integer, crate::proofs::WrittenTerms::low_complex))]
 fn is_high_operand(operand: &WrittenOperand<'_>) -> bool
     requires { IsTrue (is_operand_form (operand_form operand.now)) }
     ensures { result ≡ has_high_operand (operand_form operand.now) }
@@ -115,16 +117,40 @@ pub fn has_high_register(line: &WrittenLine<'_>) -> bool
     }
 }
 
+/// Whether an integer's text says one of more than 60 bits.
+fn passes_bounds(text: &[u8]) -> bool
+    requires { IsTrue (is_integer_text text.now) }
+    ensures { result ≡ not (is_term_integer (integer_of text.now)) }
+{
+    match parsed_integer(text) {
+        Some(number) => number < LEAST_INTEGER || number > GREATEST_INTEGER,
+        None => true,
+    }
+}
+
+#[tactic(auto, using(crate::proofs::WrittenTerms::integer_if, crate::proofs::WrittenTerms::wide_integer))]
+fn is_wide_integer(text: &[u8]) -> bool
+    requires { IsTrue (is_operand_form (integer_form text.now)) }
+    ensures { result ≡ is_wide_operand (integer_form text.now) }
+{
+    passes_bounds(text)
+}
+
+#[tactic(auto, using(crate::proofs::WrittenTerms::wide_is))]
+fn is_wide_term(text: &[u8]) -> bool
+    requires { IsTrue (is_operand_form (complex_form text.now)) }
+    ensures { result ≡ is_wide_operand (complex_form text.now) }
+{
+    is_wide_text(text)
+}
+
 fn is_wide_operand(operand: &WrittenOperand<'_>) -> bool
     requires { IsTrue (is_operand_form (operand_form operand.now)) }
     ensures { result ≡ is_wide_operand (operand_form operand.now) }
 {
     match operand {
-        WrittenOperand::Integer(text) => match parsed_integer(text) {
-            Some(number) => number < LEAST_INTEGER || number > GREATEST_INTEGER,
-            None => true,
-        },
-        WrittenOperand::Complex(text) => is_wide_text(text),
+        WrittenOperand::Integer(text) => is_wide_integer(text),
+        WrittenOperand::Complex(text) => is_wide_term(text),
         WrittenOperand::Register(_) | WrittenOperand::Atom(_) => false,
     }
 }
@@ -163,32 +189,41 @@ pub fn has_wide_integer(line: &WrittenLine<'_>) -> bool
     }
 }
 
+/// Whether a tuple or a list has more than 64 words.
+#[tactic(auto, using(crate::proofs::WrittenTerms::long_is))]
+fn is_long_term(text: &[u8]) -> bool
+    requires { IsTrue (is_operand_form (complex_form text.now)) }
+    ensures { result ≡ is_long_operand (complex_form text.now) }
+{
+    text_words(text) > MOST_WORDS
+}
+
+#[tactic(auto, using(crate::proofs::WrittenTerms::short_integer))]
 fn is_long_operand(operand: &WrittenOperand<'_>) -> bool
+    requires { IsTrue (is_operand_form (operand_form operand.now)) }
     ensures { result ≡ is_long_operand (operand_form operand.now) }
 {
     match operand {
-        WrittenOperand::Complex(text) => text_words(text) > MOST_WORDS,
+        WrittenOperand::Complex(text) => is_long_term(text),
         WrittenOperand::Register(_) | WrittenOperand::Integer(_) | WrittenOperand::Atom(_) => false,
     }
 }
 
+#[tactic(auto, using(std::proofs::lemmas::Bool::and_parts))]
 fn has_long_instr(instr: &WrittenInstr<'_>) -> bool
+    requires { IsTrue (is_instr_form (instr_form instr.now)) }
     ensures { result ≡ has_long_instr (instr_form instr.now) }
 {
     match instr {
-        WrittenInstr::Add { a, b, .. }
-        | WrittenInstr::Sub { a, b, .. }
-        | WrittenInstr::Eq { a, b, .. }
-        | WrittenInstr::Less { a, b, .. }
-        | WrittenInstr::Elem {
-            index: a,
-            from: b,
-            ..
-        } => is_long_operand(a) || is_long_operand(b),
-        WrittenInstr::Move { from: value, .. }
-        | WrittenInstr::Ret { value }
-        | WrittenInstr::PgetOr { other: value, .. }
-        | WrittenInstr::Print { value } => is_long_operand(value),
+        WrittenInstr::Move { from, .. } => is_long_operand(from),
+        WrittenInstr::Add { a, b, .. } => is_long_operand(a) || is_long_operand(b),
+        WrittenInstr::Sub { a, b, .. } => is_long_operand(a) || is_long_operand(b),
+        WrittenInstr::Eq { a, b, .. } => is_long_operand(a) || is_long_operand(b),
+        WrittenInstr::Less { a, b, .. } => is_long_operand(a) || is_long_operand(b),
+        WrittenInstr::Ret { value } => is_long_operand(value),
+        WrittenInstr::PgetOr { other, .. } => is_long_operand(other),
+        WrittenInstr::Elem { index, from, .. } => is_long_operand(index) || is_long_operand(from),
+        WrittenInstr::Print { value } => is_long_operand(value),
         WrittenInstr::Jump { .. }
         | WrittenInstr::Call { .. }
         | WrittenInstr::CallExt { .. }
@@ -199,6 +234,7 @@ fn has_long_instr(instr: &WrittenInstr<'_>) -> bool
 
 /// Whether a line has a term of more than 64 words.
 pub fn has_long_term(line: &WrittenLine<'_>) -> bool
+    requires { IsTrue (is_line_form (line_form line.now)) }
     ensures { result ≡ has_long_term (line_form line.now) }
 {
     match line {
@@ -207,21 +243,34 @@ pub fn has_long_term(line: &WrittenLine<'_>) -> bool
     }
 }
 
+#[tactic(auto, using(crate::proofs::WrittenTerms::words_are, crate::proofs::WrittenTerms::long_is))]
+fn words_of_term(text: &[u8]) -> usize
+    requires sound { IsTrue (is_operand_form (complex_form text.now)) }
+    requires short { is_long_operand (complex_form text.now) ≡ false }
+    ensures value { result ≡ operand_form_words (complex_form text.now) }
+    ensures small { result ≤ MOST_WORDS }
+{
+    text_words(text)
+}
+
+#[tactic(auto, using(crate::proofs::WrittenTerms::integer_words))]
 fn operand_words(operand: &WrittenOperand<'_>) -> usize
-    requires { is_long_operand (operand_form operand.now) ≡ false }
+    requires sound { IsTrue (is_operand_form (operand_form operand.now)) }
+    requires short { is_long_operand (operand_form operand.now) ≡ false }
     ensures value { result ≡ operand_form_words (operand_form operand.now) }
     ensures small { result ≤ MOST_WORDS }
 {
     match operand {
-        WrittenOperand::Complex(text) => text_words(text),
+        WrittenOperand::Complex(text) => words_of_term(text),
         WrittenOperand::Register(_) | WrittenOperand::Integer(_) | WrittenOperand::Atom(_) => 0,
     }
 }
 
 /// How many words of an image are those of an instruction: its own, and those of its tuples and lists behind the code.
-#[tactic(auto, using(std::proofs::lemmas::Bool::or_parts))]
+#[tactic(auto, using(std::proofs::lemmas::Bool::and_parts, std::proofs::lemmas::Bool::or_parts))]
 fn instr_words(instr: &WrittenInstr<'_>) -> usize
-    requires { has_long_instr (instr_form instr.now) ≡ false }
+    requires sound { IsTrue (is_instr_form (instr_form instr.now)) }
+    requires short { has_long_instr (instr_form instr.now) ≡ false }
     ensures { result ≡ instr_form_words (instr_form instr.now) }
 {
     match instr {

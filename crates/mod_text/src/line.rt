@@ -4,7 +4,7 @@ ghost use Rattle.std.specs.Prelude.{◌≡◌, ◌&&◌, true, option_map, IfOk,
 ghost use Rattle.mod_text.specs.LineViews.{operand_form, instr_form, line_form, text_form};
 ghost use Rattle.term_core.specs.Text.Numbers.{is_number_text as is_number};
 ghost use Rattle.mod_text.specs.ModuleLine.{is_version_text as is_version, is_arity_text as is_arity, is_line_form};
-ghost use Rattle.term_core.specs.Text.Steps.{tested, numbered_reading};
+ghost use Rattle.term_core.specs.Text.Steps.{text_tested, numbered_reading};
 ghost use Rattle.mod_text.specs.LineReading.{register_reading, constant_reading, operand_reading, sum_reading, branch_reading, move_reading, call_reading, call_ext_reading, add_reading, sub_reading, eq_reading, less_reading, jump_reading, ret_reading, pget_reading, pget_or_reading, elem_reading, print_reading, instr_reading, label_reading, title_reading, header_reading, instr_line_reading, lone_reading, keyed_reading, line_split, line_reading, is_sound_operand, has_sound_operands, has_sound_terms};
 ghost use Rattle.term_core.specs.Names.{is_atom_text as is_atom};
 ghost use Rattle.term_core.specs.TermForms.{is_bracketed};
@@ -15,7 +15,7 @@ use std::alloc::Global;
 use term_core::{NoMemory, cut_at, is_atom_text, is_integer_text, is_number_text, is_term_text};
 
 fn read_number(text: &[u8]) -> Option<&[u8]>
-    ensures { option_map (λ digits. digits.now) result ≡ tested is_number text.now }
+    ensures { option_map (λ digits. digits.now) result ≡ text_tested is_number text.now }
 {
     if is_number_text(text) {
         Some(text)
@@ -25,7 +25,7 @@ fn read_number(text: &[u8]) -> Option<&[u8]>
 }
 
 fn read_atom(text: &[u8]) -> Option<&[u8]>
-    ensures { option_map (λ name. name.now) result ≡ tested is_atom text.now }
+    ensures { option_map (λ name. name.now) result ≡ text_tested is_atom text.now }
 {
     if is_atom_text(text) { Some(text) } else { None }
 }
@@ -45,6 +45,7 @@ fn is_bracketed(text: &[u8]) -> bool
     matches!(text.first(), Some(b'{' | b'['))
 }
 
+#[tactic(auto, using(crate::proofs::WrittenTerms::integer_is, crate::proofs::WrittenTerms::complex_is))]
 fn read_constant(text: &[u8]) -> Option<WrittenOperand<'_>>
     ensures { option_map operand_form result ≡ constant_reading text.now }
 {
@@ -340,6 +341,7 @@ pub fn split_line(text: &[u8]) -> Option<WrittenLine<'_>>
     cut_line(text)
 }
 
+#[tactic(auto, using(crate::proofs::WrittenTerms::sound_integer, crate::proofs::WrittenTerms::sound_complex))]
 fn is_sound_operand(alloc: Global, operand: &WrittenOperand<'_>) -> Result<bool, NoMemory>
     ensures { IfOk result (λ sound. sound ≡ is_sound_operand (operand_form operand.now)) }
 {

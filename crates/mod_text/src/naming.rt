@@ -2,8 +2,7 @@
 
 ghost use Rattle.std.specs.Prelude.{[], ◌∷◌, ◌++◌, IsTrue};
 ghost use Rattle.term_core.specs.Names.{IsNames, Extends, is_atom_text};
-ghost use Rattle.term_core.specs.TermForms.{term_atoms};
-ghost use Rattle.mod_text.specs.LineViews.{operand_form, instr_form, line_form};
+ghost use Rattle.mod_text.specs.LineViews.{operand_form, complex_form, instr_form, line_form};
 ghost use Rattle.mod_text.specs.ModuleLine.{is_operand_form, is_instr_form, is_line_form};
 ghost use Rattle.mod_text.specs.LineFaults.{operand_atoms, instr_atoms, line_atoms};
 ghost use Rattle.mod_text.specs.Keeping.{naming};
@@ -39,8 +38,10 @@ fn add_atom(names: &mut Names, text: &[u8]) -> Result<(), LineFault>
 }
 
 /// The atoms of a tuple or a list.
+#[tactic(auto, using(crate::proofs::WrittenTerms::atoms_are))]
 fn add_term(names: &mut Names, text: &[u8]) -> Result<(), LineFault>
-    ensures named { Gives (λ _. names.new) result (naming names.old (term_atoms text.now)) }
+    requires { IsTrue (is_operand_form (complex_form text.now)) }
+    ensures named { Gives (λ _. names.new) result (naming names.old (operand_atoms (complex_form text.now))) }
     ensures grown { Extends names.old names.new }
     ensures sound { IsNames names.new }
 {
@@ -51,6 +52,7 @@ fn add_term(names: &mut Names, text: &[u8]) -> Result<(), LineFault>
     }
 }
 
+#[tactic(auto, using(crate::proofs::WrittenTerms::integer_atoms))]
 fn add_operand(names: &mut Names, operand: &WrittenOperand<'_>) -> Result<(), LineFault>
     requires { IsTrue (is_operand_form (operand_form operand.now)) }
     ensures named { Gives (λ _. names.new) result (naming names.old (operand_atoms (operand_form operand.now))) }

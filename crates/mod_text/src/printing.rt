@@ -4,10 +4,12 @@ ghost use Rattle.std.specs.Prelude.{◌≡◌, [], ◌∷◌, ◌++◌, ◌<◌,
 ghost use Rattle.std.specs.Io.{StartsWith};
 ghost use Rattle.std.specs.List.{flat_map};
 ghost use Rattle.term_core.specs.Names.{IsNames};
+ghost use Rattle.term_core.specs.Plain.{plain};
 ghost use Rattle.term_core.specs.TermText.{atom_text};
+ghost use Rattle.term_core.specs.Written.{written};
 ghost use Rattle.mod_text.specs.declared.targets.TheConstants.{MOST_PLACES};
 ghost use Rattle.mod_core.specs.declared.code.Module.{Module as ModuleValue};
-ghost use Rattle.mod_text.specs.Canonical.{canonical, function_lines, lines_from, labels_where, label_text, written_instr, written_operand, written_constant, written_call, callee_text};
+ghost use Rattle.mod_text.specs.Canonical.{canonical, function_lines, lines_from, labels_where, label_text, written_instr, written_operand, term_form, written_call, callee_text};
 ghost use Rattle.mod_core.specs.HeldNames.{IsModuleHeld};
 ghost use Rattle.mod_core.specs.Module.{IsModule};
 ghost use Rattle.mod_text.specs.ModuleLine.{title, header, instr as instr_line, move, jump, call_ext, pget, pget_or, spaced, register_written, operand_written, function_written, instr_written, header_word, line_bytes, lines_written};
@@ -193,7 +195,7 @@ fn write_operand(names: &Names, operand: &Operand, out: &mut ByteList) -> Result
 }
 
 fn write_constant(names: &Names, term: &Term, out: &mut ByteList) -> Result<(), NoMemory>
-    ensures ok { OnOk result (out.new ≡ out.old ++ operand_written (written_constant names.now term.now)) }
+    ensures ok { OnOk result (out.new ≡ out.old ++ written (term_form names.now (plain term.now))) }
     ensures err { OnErr result (out.new ≡ out.old) }
 {
     print_term(names, term, out)

@@ -127,9 +127,13 @@ pub struct ModuleReader<'a> {
 
 impl<'a> Model for ModuleReader<'a> {
     ghost use Rattle.std.specs.Prelude.{List, option_map};
+    ghost use Rattle.std.specs.Coded.{codes};
     ghost use Rattle.mod_text.specs.ModuleLine.{LineForm};
+    ghost use Rattle.mod_text.specs.WrittenCode.{written_code};
 
     ghost Value = { List LineForm };
+
+    ghost coded = { Prim.hlevel (codes, written_code) };
 
     ghost use Rattle.mod_text.specs.LineViews.{line_form, forms_of, headers_of, words_of};
     ghost use Rattle.mod_text.specs.Keeping.{AreKept};

@@ -1,12 +1,11 @@
 //! What the words of a line say.
 
 ghost use Rattle.std.specs.Prelude.{◌≡◌, ◌^◌, ◌<◌, false, IfOk, IsTrue};
-ghost use Rattle.term_core.specs.TermForms.{is_complex_text, is_wide_text};
 ghost use Rattle.term_core.specs.Written.{IsTermInteger, is_integer_text, integer_of as integer_in};
 ghost use Rattle.mod_text.specs.LineFaults.{is_high, has_high_operand, is_wide_operand};
-ghost use Rattle.mod_text.specs.LineViews.{operand_form};
+ghost use Rattle.mod_text.specs.LineViews.{operand_form, integer_form, complex_form};
 ghost use Rattle.term_core.specs.Text.Numbers.{is_number_text, number_value};
-ghost use Rattle.mod_text.specs.ModuleLine.{complex, is_arity_text, is_operand_form};
+ghost use Rattle.mod_text.specs.ModuleLine.{is_arity_text, is_operand_form};
 ghost use Rattle.mod_text.specs.ModuleValue.{atom_in, mfa_in, operand_in};
 
 use crate::written::WrittenOperand;
@@ -50,11 +49,21 @@ fn integer_value(text: &[u8]) -> i64
     parsed_integer(text).unwrap()
 }
 
+/// The constant that an integer's text says.
+#[tactic(auto, using(crate::proofs::WrittenTerms::integer_if, crate::proofs::WrittenTerms::integer_says))]
+fn integer_of(names: &Names, text: &[u8]) -> Operand
+    requires form { IsTrue (is_operand_form (integer_form text.now)) }
+    requires narrow { is_wide_operand (integer_form text.now) ≡ false }
+    ensures { result ≡ operand_in names.now (integer_form text.now) }
+{
+    Operand::Const(Term::Int(integer_value(text)))
+}
+
 /// The constant that a tuple's or a list's text says.
 fn complex_of(alloc: Global, names: &Names, text: &[u8]) -> Result<Operand, NoMemory>
-    requires form { IsTrue (is_complex_text text.now) }
-    requires narrow { is_wide_text text.now ≡ false }
-    ensures { IfOk result (λ operand. operand ≡ operand_in names.now (complex text.now)) }
+    requires form { IsTrue (is_operand_form (complex_form text.now)) }
+    requires narrow { is_wide_operand (complex_form text.now) ≡ false }
+    ensures { IfOk result (λ operand. operand ≡ operand_in names.now (complex_form text.now)) }
 {
     let term = term_in(alloc, names, text)?;
     Ok(Operand::Const(term))
@@ -75,7 +84,7 @@ pub fn operand_of(
 {
     match operand {
         WrittenOperand::Register(digits) => Ok(Operand::Reg(register_of(digits))),
-        WrittenOperand::Integer(text) => Ok(Operand::Const(Term::Int(integer_value(text)))),
+        WrittenOperand::Integer(text) => Ok(integer_of(names, text)),
         WrittenOperand::Atom(text) => Ok(Operand::Const(Term::Atom(atom_of(names, text)))),
         WrittenOperand::Complex(text) => complex_of(alloc, names, text),
     }

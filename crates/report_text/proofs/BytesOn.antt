@@ -3,7 +3,7 @@ use Rattle.report_text.proofs.Common.{◌≡◌, ℕ, ◌+◌, false, List, Opti
 use Rattle.report_text.proofs.Texts.{cut_at, Lines, lines_of_cut, lines_of_tail, uncut_is, failed}
 use Rattle.report_text.proofs.Types.{RunLog, ReportFault, ReportLine, ReportState}
 use Rattle.report_text.specs.declared.line_fault.LineFault.{LineFault}
-use Rattle.report_text.proofs.Forms.{Reads, longer_line, line_reading, Fails, Gives, line_taken}
+use Rattle.report_text.proofs.Forms.{ReadsWord, longer_line, line_reading, Fails, Gives, line_taken}
 use Rattle.report_text.proofs.Forms.{numbered, text_ended, on_from, lines_on, bytes_on}
 use Rattle.report_text.specs.declared.fault.ReportFault.TheVariants as faults
 
@@ -36,8 +36,8 @@ module _ (names : Texts) (s : ReportState) (number : ℕ) (rest : List ℕ) wher
   no_line whole e so_far = sym so_far ∙ ap (λ (w : Lines). lines_on names s number w.ended w.tail) (lines_of_tail rest (uncut_is 10 rest e))
 
 -- a line that is neither the first nor the last of a report
-pub longer : (names : Texts) (text : List ℕ) (r : Result ReportLine LineFault) → bytes_eq text (codes "beam report 1") ≡ false → bytes_eq text (codes "end report") ≡ false → Reads (λ line. line) r (longer_line names text) → Reads (λ line. line) r (line_reading names text)
-longer names text r h k read = subst (λ o. Reads (λ line. line) r o) (sym (failed (bytes_eq text (codes "beam report 1")) _ _ h ∙ failed (bytes_eq text (codes "end report")) _ (longer_line names text) k)) read
+pub longer : (names : Texts) (text : List ℕ) (r : Result ReportLine LineFault) → bytes_eq text (codes "beam report 1") ≡ false → bytes_eq text (codes "end report") ≡ false → ReadsWord (λ line. line) r (longer_line names text) → ReadsWord (λ line. line) r (line_reading names text)
+longer names text r h k read = subst (λ o. ReadsWord (λ line. line) r o) (sym (failed (bytes_eq text (codes "beam report 1")) _ _ h ∙ failed (bytes_eq text (codes "end report")) _ (longer_line names text) k)) read
 
 -- the same is given
 pub given : (r whole end : Result RunLog ReportFault) → whole ≡ end → Gives (λ log. log) r end → Gives (λ log. log) r whole

@@ -1,10 +1,8 @@
 -- Equality, truth, lists and steps, as lemmas name them.
 pub use Rattle.mod_text.proofs.Common.{Texts}
-pub use Rattle.std.proofs.Common.{◌≡◌, ℕ, ◌+◌, false, List, Option, Some, None, Result, Ok, bytes_eq, codes}
-pub use Rattle.std.proofs.Common.{sym, ap, ◌∙◌, subst, Bool, true, ◌||◌, ◌==◌, [], ◌∷◌, ◌++◌, decimal}
-pub use Rattle.std.proofs.Common.{refl, arith, ◌<◌, length, IfSome, append_assoc, cond, ◌≤◌, nat_le, IfOk, Err}
-pub use Rattle.std.proofs.Common.{◌≢◌, ◌-◌, not, nat_lt, is_some, append-nil, length-append, take}
-pub use Rattle.std.proofs.Common.{drop}
+pub use Rattle.std.proofs.Common.{◌≡◌, ℕ, ◌+◌, false, List, Option, Some, None, Result, Ok, bytes_eq, codes, sym, ap, ◌∙◌, subst, Bool, true, ◌||◌}
+pub use Rattle.std.proofs.Common.{◌==◌, [], ◌∷◌, ◌++◌, decimal, refl, arith, ◌<◌, length, IfSome, append_assoc, cond, ◌≤◌, nat_le, IfOk, Err, ◌≢◌}
+pub use Rattle.std.proofs.Common.{◌-◌, not, nat_lt, is_some, append-nil, length-append, take, drop}
 pub use Rattle.std.proofs.lemmas.Bool.{and_parts, and_from, not-true}
 pub use Rattle.std.proofs.lemmas.Bool.Decides.{Decides-eqb, nat_tests}
 pub use Rattle.std.proofs.lemmas.Grind.{flat_map-append, common_steps}

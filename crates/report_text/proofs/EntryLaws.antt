@@ -3,25 +3,20 @@ use Rattle.report_text.proofs.Common.{◌≡◌, ℕ, Bool, true, false, ◌||�
 use Rattle.report_text.proofs.Common.{refl, ◌∙◌, arith, ◌<◌, length, Some, None, sym, ap, subst, map}
 use Rattle.report_text.proofs.Common.{Texts, AllByRecursion, join_with_byte, flat_map, list_all, and_parts, and_from, Option, IfSome}
 use Rattle.std.proofs.lemmas.List.Folds.{list_all-append}
-use Rattle.report_text.proofs.Types.{AtomId, Mfa, Cmd, Load, Delete, SoftPurge, Doom, Purge, CheckOld, Put, Erase}
-use Rattle.report_text.proofs.Types.{Trace, Spawn, Release, Instances, Reply, Line, End, Who, Loader}
-use Rattle.report_text.proofs.Types.{Runtime, Keys, Areas, Entry}
-use Rattle.report_text.proofs.Texts.{IsNames, is_name_byte, plain, term_of, PlainTerm, atom_text, is_term_byte}
-use Rattle.report_text.proofs.Texts.{name_bytes-decimal, plain-term_of, term_of-plain, some, bind_some}
-use Rattle.report_text.proofs.Texts.{lacks, lacks-append, lacks-cons, IsItem, join-flat, switch_word}
-use Rattle.report_text.proofs.Texts.{switch_reading, switch_is, switch_again, is_atom_text, some_is, bind_at}
-use Rattle.report_text.proofs.Texts.{lacks-all, joined_lacks, parts_of, each_reading}
+use Rattle.report_text.proofs.Types.{AtomId, Mfa, Cmd, Load, Delete, SoftPurge, Doom, Purge, CheckOld, Put, Erase, Trace, Spawn, Release, Instances}
+use Rattle.report_text.proofs.Types.{Reply, Line, End, Who, Loader, Runtime, Keys, Areas, Entry}
+use Rattle.report_text.proofs.Texts.{IsNames, is_name_byte, plain, term_of, PlainTerm, atom_text, is_term_byte, name_bytes-decimal, plain-term_of}
+use Rattle.report_text.proofs.Texts.{term_of-plain, some, bind_some, lacks, lacks-append, lacks-cons, IsItem, join-flat, switch_word, switch_reading}
+use Rattle.report_text.proofs.Texts.{switch_is, switch_again, is_atom_text, some_is, bind_at, lacks-all, joined_lacks, parts_between, each_reading}
 use Rattle.term_core.proofs.TermBytes.{name_bytes-atom as name_bytes}
 use Rattle.server_core.specs.declared.command.ModRef.{ModRef}
-use Rattle.report_text.proofs.Logs.{IsTermOf, mfa_text, plain_text, call_text, who_text, reference_text}
-use Rattle.report_text.proofs.Logs.{switch_text, cmd_text, reply_text, end_text, IsWide, IsNamed, IsFunctionOf}
-use Rattle.report_text.proofs.Logs.{IsCallOf, IsReferenceOf, IsCommandOf, IsReplyOf, IsWhoOf, IsLineOf}
-use Rattle.report_text.proofs.Logs.{IsEndOf, limit_text, published_text, IsLingerOf, Agrees, IsEntryOf}
+use Rattle.report_text.proofs.Logs.{IsTermOf, mfa_text, plain_text, call_text, who_text, reference_text, switch_text, cmd_text, reply_text, end_text}
+use Rattle.report_text.proofs.Logs.{IsWide, IsNamed, IsFunctionOf, IsCallOf, IsReferenceOf, IsCommandOf, IsReplyOf, IsWhoOf, IsLineOf, IsEndOf}
+use Rattle.report_text.proofs.Logs.{limit_text, published_text, IsLingerOf, Agrees, IsEntryOf}
 use Rattle.report_text.proofs.Forms.{shown_line_text, atom_reading, atom_command, on_atom_reading}
 use Rattle.report_text.proofs.Forms.{worded_command, command_reading, cut_last, sided, ended_reading}
-use Rattle.report_text.proofs.TermLaws.{atom_is_text, narrow_wide, atom, number, version, atom_is, named_lacks}
-use Rattle.report_text.proofs.TermLaws.{decimal_lacks, digit_apart, narrow, cut_last_here, cut_last_is, text_back}
-use Rattle.report_text.proofs.TermLaws.{term, text_of_it, function, function_lacks, call, call_of}
+use Rattle.report_text.proofs.TermLaws.{atom_is_text, narrow_wide, atom, number, version, atom_is, named_lacks, decimal_lacks, digit_apart, narrow}
+use Rattle.report_text.proofs.TermLaws.{cut_last_here, cut_last_is, text_back, term, text_of_it, function, function_lacks, call, call_of}
 use Rattle.mod_text.proofs.Readers.{Reader, fitting, pair, made, made_again, row, name_is, word_is}
 use Rattle.mod_text.proofs.Readers.{longer_is, made_is, closed, begun, sided_is, sided_again, closed_by}
 use Rattle.server_core.specs.declared.command.Linger.{Linger}
@@ -268,7 +263,7 @@ linger = made (pair 32 narrow narrow (λ n h. decimal_lacks 32 n refl (narrow_wi
 abbrev atoms_text : Texts → List AtomId → List ℕ
 atoms_text names atoms = join_with_byte 44 (map (λ m. atom_text names m.0) atoms)
 
-nonempty_again : (names : Texts) (text : List ℕ) (o : Option (List AtomId)) → 0 < length text → each_reading (atom_reading names) (parts_of 44 text) ≡ o → atoms_reading names text ≡ o
+nonempty_again : (names : Texts) (text : List ℕ) (o : Option (List AtomId)) → 0 < length text → each_reading (atom_reading names) (parts_between 44 text) ≡ o → atoms_reading names text ≡ o
 nonempty_again names [] o h e = absurd (omega arith)
 nonempty_again names (c ∷ text) o h e = e
 

@@ -2,9 +2,8 @@
 use Rattle.report_text.proofs.Common.{◌≡◌, ℕ, true, false, ◌==◌, List, [], ◌∷◌, ◌++◌, decimal, Option, Some, None}
 use Rattle.report_text.proofs.Common.{IfSome, codes, refl, sym, ap, ◌∙◌, subst, append_assoc, Texts}
 use Rattle.report_text.proofs.Types.{Mfa, Line, End, Entry, Call, ReportLine}
-use Rattle.report_text.proofs.Texts.{IsNames, plain, term_of, PlainTerm, plain-term_of, term_of-plain, ◌>>=◌}
-use Rattle.report_text.proofs.Texts.{some, bind_some, lacks, lacks-all, lacks-append, lacks-cons, IsItem}
-use Rattle.report_text.proofs.Texts.{number_reading}
+use Rattle.report_text.proofs.Texts.{IsNames, plain, term_of, PlainTerm, plain-term_of, term_of-plain, ◌>>=◌, some, bind_some, lacks, lacks-all}
+use Rattle.report_text.proofs.Texts.{lacks-append, lacks-cons, IsItem, number_reading}
 use Rattle.report_text.proofs.Logs.{IsTermOf, mfa_text, call_text, who_text, cmd_text, reply_text}
 use Rattle.report_text.proofs.Logs.{published_text, end_text, IsWide, IsLineOf, IsEndOf, IsEntryOf}
 use Rattle.report_text.proofs.Forms.{line_text, IsReportLine, shown_line_text, worded_end, end_reading}

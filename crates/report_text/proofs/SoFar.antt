@@ -1,22 +1,19 @@
 -- The lines that a state has taken, and what is known of its log: each line that is taken keeps both, and each state can be completed.
-use Rattle.std.proofs.Common.{◌≡◌, ◌≢◌, ℕ, zero, suc, ◌+◌, ◌-◌, ◌^◌, ◌<◌, Bool, true, false, cond, ◌==◌, not}
-use Rattle.std.proofs.Common.{nat_lt, List, [], ◌∷◌, ◌++◌, length, Option, Some, None, is_some, IfSome, refl}
-use Rattle.std.proofs.Common.{sym, ap, ◌∙◌, subst, arith, append_assoc, append-nil, length-append}
+use Rattle.std.proofs.Common.{◌≡◌, ◌≢◌, ℕ, zero, suc, ◌+◌, ◌-◌, ◌^◌, ◌<◌, Bool, true, false, cond, ◌==◌, not, nat_lt, List, [], ◌∷◌, ◌++◌, length}
+use Rattle.std.proofs.Common.{Option, Some, None, is_some, IfSome, refl, sym, ap, ◌∙◌, subst, arith, append_assoc, append-nil, length-append}
 use Rattle.report_text.proofs.Common.{map, AllByRecursion, flat_map, and_parts, nat_tests, Decides-eqb, flat_map-append, map-append, Texts}
 use Rattle.std.proofs.lemmas.List.Sums.{sum-map, sum_by-append, sum_by-cons}
-use Rattle.report_text.proofs.Types.{Mfa, Line, End, Runtime, Entry, Span, ProcessLog, Snapshot, RunLog}
-use Rattle.report_text.proofs.Types.{ReportLine, Stage, Head, Count, Entries, Processes, Process, Observer}
-use Rattle.report_text.proofs.Types.{Done, ReportState}
+use Rattle.report_text.proofs.Types.{Mfa, Line, End, Runtime, Entry, Span, ProcessLog, Snapshot, RunLog, ReportLine, Stage, Head, Count, Entries}
+use Rattle.report_text.proofs.Types.{Processes, Process, Observer, Done, ReportState}
 use Rattle.report_text.proofs.Texts.{PlainTerm, ◌>>=◌, some, some_is, bind_some, guarded, guard_some, each_append, all_front}
 use Rattle.machine_core.specs.declared.process.End.TheVariants.{Normal}
-use Rattle.report_text.proofs.Logs.{publishes, published_count, AreApart, IsWide, IsEntryOf, IsProcessOf}
-use Rattle.report_text.proofs.Logs.{IsSnapshotOf, IsSpanOf, IsLineOf, IsCallOf, IsEndOf, IsExportOf}
-use Rattle.report_text.proofs.Logs.{IsFunctionOf, IsWellFormed}
+use Rattle.report_text.proofs.Logs.{publishes, published_count, AreApart, IsWide, IsEntryOf, IsProcessOf, IsSnapshotOf, IsSpanOf, IsLineOf, IsCallOf}
+use Rattle.report_text.proofs.Logs.{IsEndOf, IsExportOf, IsFunctionOf, IsWellFormed}
 use Rattle.run_log.proofs.ApartSpans.{apart_more, apart_cut, last_is}
 use Rattle.report_text.proofs.Forms.{IsReportLine, span_lines, process_lines, processes_lines, export_line}
 use Rattle.report_text.proofs.Forms.{snapshot_lines, observer_lines, observers_lines, log_lines, AreCounted}
-use Rattle.report_text.specs.Taking.{at, empty_log, opening, count_after, with_entry, may_begin, begun, process_behind, with_going}
-use Rattle.report_text.specs.Taking.{spans_closed, may_follow, with_line, shown_in, ended, with_process, shots_closed, observers_closed}
+use Rattle.report_text.specs.Taking.{at, empty_log, report_opening, count_after, with_entry, may_begin, process_begun, process_behind, with_going}
+use Rattle.report_text.specs.Taking.{spans_closed, span_may_follow, with_line, shown_in, process_ended, with_process, shots_closed, observers_closed}
 use Rattle.report_text.specs.Taking.{observer_behind, with_export, export_in, head_taken, count_taken, entry_taken, process_taken}
 use Rattle.report_text.specs.Taking.{span_taken, shown_taken, end_taken, observer_taken, snapshot_taken, export_taken, close_taken, taken}
 use Rattle.report_text.specs.declared.line.ReportLine.TheVariants as lines
@@ -263,7 +260,7 @@ module _ (names : Texts) (log : RunLog) where
   begins_is Processes h e = record { stands = h; lines_are = refl }
   begins_is stage h e = absurd cc
 
-  process_begins : (stage : Stage) (number : ℕ) (to : Mfa) (args : List PlainTerm) → MayBegin names log stage → IsWide number → IsCallOf names to args → number ≡ length log.processes → IsTaken names (at log stage) (lines.Process number to args) (at log (Process (begun to args) None))
+  process_begins : (stage : Stage) (number : ℕ) (to : Mfa) (args : List PlainTerm) → MayBegin names log stage → IsWide number → IsCallOf names to args → number ≡ length log.processes → IsTaken names (at log stage) (lines.Process number to args) (at log (Process (process_begun to args) None))
   process_begins stage number to args h wide call e = record {
     stands = record {
       good = h.stands.good;
@@ -278,7 +275,7 @@ module _ (names : Texts) (log : RunLog) where
 process_is : (names : Texts) (log : RunLog) (stage : Stage) (number : ℕ) (to : Mfa) (args : List PlainTerm) (next : ReportState) → StageStands names log stage → IsWide number → IsCallOf names to args → process_taken log stage number to args ≡ Some next → IsTaken names (at log stage) (lines.Process number to args) next
 process_is names log stage number to args next h wide call e =
     let g = guarded (may_begin stage) (process_behind log number to args) next e in
-    let n = guard_some (number == length log.processes) (at log (Process (begun to args) None)) next g.1 in
+    let n = guard_some (number == length log.processes) (at log (Process (process_begun to args) None)) next g.1 in
     subst (IsTaken names (at log stage) (lines.Process number to args)) n.1 (process_begins names log stage number to args (begins_is names log stage h g.0) wide call ((Decides-eqb number (length log.processes)).0 n.0))
 
 -- ---- spans
@@ -294,7 +291,7 @@ record Follows (going : Option Span) (generation turns : ℕ) : Type 0 where
   some : 0 < turns
   apart : IfSome going (λ span. span.generation ≢ generation)
 
-follows_is : (going : Option Span) (generation turns : ℕ) → may_follow going generation turns ≡ true → Follows going generation turns
+follows_is : (going : Option Span) (generation turns : ℕ) → span_may_follow going generation turns ≡ true → Follows going generation turns
 follows_is None generation turns h = record { some = positive turns h; apart = tt }
 follows_is (Some span) generation turns h =
     let p = and_parts (nat_lt 0 turns) (not (span.generation == generation)) h in
@@ -328,7 +325,7 @@ span_begins names log process going span bare h g t f =
 span_is : (names : Texts) (log : RunLog) (stage : Stage) (generation turns : ℕ) (next : ReportState) → StageStands names log stage → IsWide generation → IsWide turns → span_taken log stage generation turns ≡ Some next → IsTaken names (at log stage) (lines.Span generation turns) next
 span_is names log (Process process going) generation turns next h g t e =
     let span : Span = record { generation = generation; turns = turns; lines = [] } in
-    let k = guard_some (may_follow going generation turns) (at log (Process (spans_closed process going) (Some span))) next e in
+    let k = guard_some (span_may_follow going generation turns) (at log (Process (spans_closed process going) (Some span))) next e in
     subst (IsTaken names (at log (Process process going)) (lines.Span generation turns)) k.1 (span_begins names log process going span refl h g t (follows_is going generation turns k.0))
 span_is names log stage generation turns next h g t e = no_state next e
 
@@ -371,9 +368,9 @@ module _ (names : Texts) (log : RunLog) where
   shown_is stage line next h fits e = no_state next e
 
   -- the end of a process
-  process_ends : (process : ProcessLog) (going : Option Span) (fin : End) → InProcess names log process going → IsEndOf names fin → IsTaken names (at log (Process process going)) (lines.End fin) (at (with_process log (ended (spans_closed process going) fin)) Processes)
+  process_ends : (process : ProcessLog) (going : Option Span) (fin : End) → InProcess names log process going → IsEndOf names fin → IsTaken names (at log (Process process going)) (lines.End fin) (at (with_process log (process_ended (spans_closed process going) fin)) Processes)
   process_ends process going fin h fits =
-      let p = ended (spans_closed process going) fin in
+      let p = process_ended (spans_closed process going) fin in
       let n = length log.processes in
       let longer = length-append log.processes (p ∷ []) in
       record {
@@ -394,7 +391,7 @@ module _ (names : Texts) (log : RunLog) where
 
   end_is : (stage : Stage) (fin : End) (next : ReportState) → StageStands names log stage → IsEndOf names fin → end_taken log stage fin ≡ Some next → IsTaken names (at log stage) (lines.End fin) next
   end_is (Process process going) fin next h fits e =
-      subst (IsTaken names (at log (Process process going)) (lines.End fin)) (some_is (at (with_process log (ended (spans_closed process going) fin)) Processes) next e) (process_ends process going fin h fits)
+      subst (IsTaken names (at log (Process process going)) (lines.End fin)) (some_is (at (with_process log (process_ended (spans_closed process going) fin)) Processes) next e) (process_ends process going fin h fits)
   end_is stage fin next h fits e = no_state next e
 
 -- ---- observers
@@ -510,7 +507,7 @@ module _ (names : Texts) where
   line_is s (lines.Export function serial) next h fits e = export_is s.log s.stage function serial next h fits.0 fits.1 e
   line_is s lines.Close next h fits e = close_is s.log s.stage next h e
 
-  pub opening_stands : Stands names opening
+  pub opening_stands : Stands names report_opening
   opening_stands = refl
 
 -- ---- each state can be completed
@@ -568,7 +565,7 @@ module _ (names : Texts) where
   stage_completed log Processes h = by_close names log Processes log h refl
   stage_completed log (Process process going) h =
       let t = process_ends names log process going Normal h tt in
-      let next = with_process log (ended (spans_closed process going) Normal) in
+      let next = with_process log (process_ended (spans_closed process going) Normal) in
       by_step names (at log (Process process going)) (lines.End Normal) (at next Processes) t (by_close names next Processes next t.stands refl)
   stage_completed log (Observer shots going) h = by_close names log (Observer shots going) (shots_closed log shots going) h refl
   stage_completed log Done h = done names log h

@@ -2,21 +2,17 @@
 use Rattle.std.proofs.Common.{◌≡◌, ℕ, ◌+◌, ◌-◌, ◌<◌, Bool, true, false, ◌==◌, not, List, [], ◌∷◌, ◌++◌, length, get_or, take, drop, Option, Some}
 use Rattle.std.proofs.Common.{None, refl, sym, ap, ◌∙◌, subst, arith, add-one, drop-cons, length-drop, ◌≤◌, ◌^◌, cond, nat_le, nat_lt}
 use Rattle.std.proofs.Common.{decimal, option_map, slice_get, unwrap_or, bytes_eq, append_assoc, append-nil, length-take, IsSome}
-use Rattle.report_text.proofs.Common.{and_parts, not-true, and_from, Decides-eqb, nat_tests}
-use Rattle.report_text.proofs.Common.{take-append-drop, take_all, slice_get-get_or, slice_get_within, Texts, map}
-use Rattle.report_text.proofs.Common.{AllByRecursion, join_with_byte, list_all, length-map}
-use Rattle.report_text.proofs.Texts.{with_first, some, some_is, passed, failed, map_some, guard_some, guarded}
-use Rattle.report_text.proofs.Texts.{lacks, atom_lacks, number_lacks, IsNames, number_of, is_atom_text}
-use Rattle.report_text.proofs.Texts.{is_name_byte, atom_text, slice_get-number_of, texts_are_atoms, IsItem}
-use Rattle.report_text.proofs.Texts.{number_reading, narrow_reading, decimal_again, test_lt, passes_lt}
-use Rattle.report_text.proofs.Texts.{term_of, PlainTerm, EachLeaf, row_of, term_words, map_leaves, row_count}
-use Rattle.report_text.proofs.Texts.{parts_of_terms, joined, IsTerm, term_text, number_in, parts_of_parted}
-use Rattle.report_text.proofs.Texts.{joined_parts_of_terms, joined_written, plain-term_of, is_term_byte}
-use Rattle.report_text.proofs.Texts.{term_bytes-term_text, is_some_at, none_by, same_bytes, bytes_are}
-use Rattle.report_text.proofs.Texts.{lacks-all, lacks-append, lacks-cons, each_reading, each_again, each_is, each_count, joined_lacks}
-use Rattle.report_text.proofs.Forms.{cut_or, cut_last, version_reading, arity_reading}
-use Rattle.report_text.proofs.Forms.{atom_numbered, atom_reading, is_short_text, named_term, plain_reading}
-use Rattle.report_text.proofs.Forms.{some_terms, terms_reading}
+use Rattle.report_text.proofs.Common.{and_parts, not-true, and_from, Decides-eqb, nat_tests, take-append-drop, take_all, slice_get-get_or}
+use Rattle.report_text.proofs.Common.{slice_get_within, Texts, map, AllByRecursion, join_with_byte, list_all, length-map}
+use Rattle.report_text.proofs.Texts.{with_first, some, some_is, passed, failed, map_some, guard_some, guarded, lacks, atom_lacks, number_lacks}
+use Rattle.report_text.proofs.Texts.{IsNames, number_of, is_atom_text, is_name_byte, atom_text, slice_get-number_of, texts_are_atoms, IsItem}
+use Rattle.report_text.proofs.Texts.{number_reading, narrow_reading, decimal_again, test_lt, passes_lt, term_of, PlainTerm, EachLeaf, row_of}
+use Rattle.report_text.proofs.Texts.{term_words, map_leaves, row_count, parts_of_terms, joined, IsTerm, term_text, number_in, parts_of_parted}
+use Rattle.report_text.proofs.Texts.{joined_parts_of_terms, joined_written, plain-term_of, is_term_byte, term_bytes-term_text, is_some_at, none_by}
+use Rattle.report_text.proofs.Texts.{same_bytes, bytes_are, lacks-all, lacks-append, lacks-cons, each_reading, each_again, each_is, each_count}
+use Rattle.report_text.proofs.Texts.{joined_lacks}
+use Rattle.report_text.proofs.Forms.{cut_or, cut_last, version_reading, arity_reading, atom_numbered, atom_reading, is_short_text, named_term}
+use Rattle.report_text.proofs.Forms.{plain_reading, some_terms, terms_reading}
 use Rattle.std.specs.Char.{is_ascii_digit}
 use Rattle.report_text.proofs.Types.{AtomId, Mfa, Call}
 use Rattle.term_core.proofs.GrownNames.{number_of-at}

@@ -4,9 +4,8 @@ pub use Rattle.term_core.proofs.NameTables.{slice_get-number_of, texts_are_atoms
 pub use Rattle.term_core.proofs.PartedTerms.{parts_by_cut, parts_of_parted, joined_parts_of_terms, joined_written}
 pub use Rattle.term_core.proofs.PlainTerms.{plain-term_of, term_of-plain}
 pub use Rattle.term_core.proofs.TermBytes.{is_term_byte, name_bytes-decimal, term_bytes-term_text}
-pub use Rattle.term_core.proofs.Text.Cuts.{lines_of_cut, lines_of_tail, uncut_is, lacks, lacks-append}
-pub use Rattle.term_core.proofs.Text.Cuts.{lacks-cons, lacks-all, cut_here, cut_is, lines_behind, atom_lacks}
-pub use Rattle.term_core.proofs.Text.Cuts.{number_lacks}
+pub use Rattle.term_core.proofs.Text.Cuts.{lines_of_cut, lines_of_tail, uncut_is, lacks, lacks-append, lacks-cons, lacks-all, cut_here, cut_is}
+pub use Rattle.term_core.proofs.Text.Cuts.{lines_behind, atom_lacks, number_lacks}
 pub use Rattle.term_core.proofs.Text.Items.{IsItem, join-flat, joined_lacks, joined_again, joined_is, each_count, each_again, each_is}
 pub use Rattle.term_core.proofs.Text.Options.{failed, some, bind_some, some_is, bind_at, passed}
 pub use Rattle.term_core.proofs.Text.Options.{bytes_are, guarded, guard_some, same_bytes, map_some}
@@ -20,6 +19,6 @@ pub use Rattle.term_core.specs.PlainTerm.{PlainTerm, EachLeaf, row_of, term_word
 pub use Rattle.term_core.specs.TermParts.{parts_of_terms, joined, parts_of_rest}
 pub use Rattle.term_core.specs.TermText.{atom_text, IsTerm, term_text, number_in}
 pub use Rattle.term_core.specs.Text.Cuts.{cut_at, Lines, lines, before_lines, with_first}
-pub use Rattle.term_core.specs.Text.Parts.{parts_of, each_reading, lines_of, last_line, all_lines, lines_joined}
+pub use Rattle.term_core.specs.Text.Parts.{parts_between, each_reading, lines_of_text, as_last_line, all_lines, lines_joined}
 pub use Rattle.term_core.specs.Text.Steps.{◌>>=◌}
 pub use Rattle.term_core.specs.Text.Words.{switch_word, switch_reading, number_reading, narrow_reading}

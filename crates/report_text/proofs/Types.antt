@@ -15,8 +15,7 @@ pub use Rattle.run_log.specs.declared.logs.Span.{Span}
 pub use Rattle.run_log.specs.declared.logs.Who.{Who}
 pub use Rattle.run_log.specs.declared.logs.Who.TheVariants.{Loader, Runtime}
 pub use Rattle.server_core.specs.declared.command.Cmd.{Cmd}
-pub use Rattle.server_core.specs.declared.command.Cmd.TheVariants.{Load, Delete, SoftPurge, Doom, Purge, CheckOld}
-pub use Rattle.server_core.specs.declared.command.Cmd.TheVariants.{Put, Erase, Trace, Spawn, Release}
+pub use Rattle.server_core.specs.declared.command.Cmd.TheVariants.{Load, Delete, SoftPurge, Doom, Purge, CheckOld, Put, Erase, Trace, Spawn, Release}
 pub use Rattle.server_core.specs.declared.command.Limit.TheVariants.{Instances, Keys, Areas}
 pub use Rattle.server_core.specs.declared.command.Reply.{Reply}
 pub use Rattle.term_core.specs.declared.atom.AtomId.{AtomId}

@@ -1,18 +1,16 @@
 -- The lines of a log are taken, one after another, and leave that log; its rendering is their text.
-use Rattle.report_text.proofs.Common.{◌≡◌, ℕ, ◌+◌, List, [], ◌∷◌, ◌++◌, refl, sym, ap, ◌∙◌, append_assoc, ◌≢◌, ◌-◌}
-use Rattle.report_text.proofs.Common.{◌<◌, true, false, cond, ◌==◌, not, nat_lt, length, Option, Some, Texts}
-use Rattle.report_text.proofs.Common.{None, is_some, arith, append-nil, length-append, map, flat_map}
+use Rattle.report_text.proofs.Common.{◌≡◌, ℕ, ◌+◌, List, [], ◌∷◌, ◌++◌, refl, sym, ap, ◌∙◌, append_assoc, ◌≢◌, ◌-◌, ◌<◌, true, false, cond, ◌==◌}
+use Rattle.report_text.proofs.Common.{not, nat_lt, length, Option, Some, Texts, None, is_some, arith, append-nil, length-append, map, flat_map}
 use Rattle.report_text.proofs.Common.{AllByRecursion, and_from, nat_tests, Decides-eqb}
 use Rattle.report_text.proofs.Types.{Line, Span, ProcessLog, Snapshot, RunLog, ReportLine, Mfa, End, Entry}
 use Rattle.report_text.proofs.Types.{Stage, Entries, Processes, Process, Observer, Done, ReportState}
-use Rattle.report_text.proofs.Logs.{published_count, publishes, line_of, entry_text, shown_text, span_text}
-use Rattle.report_text.proofs.Logs.{process_text, processes_text, export_text, snapshot_text, observer_text}
-use Rattle.report_text.proofs.Logs.{observers_text, rendering_of, AreApart, AreWhole, count-cons}
+use Rattle.report_text.proofs.Logs.{published_count, publishes, line_of, entry_text, shown_text, span_text, process_text, processes_text}
+use Rattle.report_text.proofs.Logs.{export_text, snapshot_text, observer_text, observers_text, rendering_of, AreApart, AreWhole, count-cons}
 use Rattle.report_text.proofs.Forms.{line_text, span_lines, process_lines, processes_lines, export_line}
 use Rattle.report_text.proofs.Forms.{snapshot_lines, observer_lines, observers_lines, log_lines, lines_text}
 use Rattle.report_text.proofs.Texts.{some, bind_at, passed, failed}
-use Rattle.report_text.specs.Taking.{at, empty_log, opening, count_after, with_entry, may_begin, begun, with_going, spans_closed}
-use Rattle.report_text.specs.Taking.{may_follow, with_line, with_process, with_observer, observers_closed, with_export, taken, all_taken}
+use Rattle.report_text.specs.Taking.{at, empty_log, report_opening, count_after, with_entry, may_begin, process_begun, with_going, spans_closed}
+use Rattle.report_text.specs.Taking.{span_may_follow, with_line, with_process, with_observer, observers_closed, with_export, taken, all_taken}
 use Rattle.report_text.specs.declared.line.ReportLine.TheVariants as lines
 use Rattle.machine_core.specs.declared.process.Line.TheVariants as shown
 
@@ -153,7 +151,7 @@ positive n h = grind (arith, nat_tests)
 differs : (a b : ℕ) → a ≢ b → not (a == b) ≡ true
 differs a b h = grind (arith, nat_tests)
 
-follows : (going : Option Span) (span : Span) (spans : List Span) → 0 < span.turns → AreBehind going (span ∷ spans) → may_follow going span.generation span.turns ≡ true
+follows : (going : Option Span) (span : Span) (spans : List Span) → 0 < span.turns → AreBehind going (span ∷ spans) → span_may_follow going span.generation span.turns ≡ true
 follows None span spans h apart = positive span.turns h
 follows (Some before) span spans h apart = and_from (nat_lt 0 span.turns) (not (before.generation == span.generation)) (positive span.turns h) (differs before.generation span.generation apart.0)
 
@@ -161,8 +159,8 @@ behind_it : (going : Option Span) (span : Span) (spans : List Span) → AreBehin
 behind_it None span spans apart = apart
 behind_it (Some before) span spans apart = apart.1
 
-span_begins : (log : RunLog) (process : ProcessLog) (going : Option Span) (span : Span) → may_follow going span.generation span.turns ≡ true → taken (at log (Process process going)) (lines.Span span.generation span.turns) ≡ Some (at log (Process (spans_closed process going) (Some (record { generation = span.generation; turns = span.turns; lines = [] }))))
-span_begins log process going span h = passed (may_follow going span.generation span.turns) (some (at log (Process (spans_closed process going) (Some (record { generation = span.generation; turns = span.turns; lines = [] }))))) None h
+span_begins : (log : RunLog) (process : ProcessLog) (going : Option Span) (span : Span) → span_may_follow going span.generation span.turns ≡ true → taken (at log (Process process going)) (lines.Span span.generation span.turns) ≡ Some (at log (Process (spans_closed process going) (Some (record { generation = span.generation; turns = span.turns; lines = [] }))))
+span_begins log process going span h = passed (span_may_follow going span.generation span.turns) (some (at log (Process (spans_closed process going) (Some (record { generation = span.generation; turns = span.turns; lines = [] }))))) None h
 
 regroup : {X : Type 0} (a b c : List X) → (a ++ b) ++ c ≡ a ++ (b ++ c)
 regroup a b c = append_assoc a b c
@@ -185,16 +183,16 @@ spans_are log process going (span ∷ spans) fin rest turns apart =
     ∙ ap (λ ss. all_taken (at (with_process log (record process { spans = ss; fin = fin })) Processes) rest) (append_assoc (with_going process.spans going) (span ∷ []) spans)
 
 module _ (log : RunLog) (stage : Stage) (number : ℕ) (process : ProcessLog) where
-  begins : may_begin stage ≡ true → number ≡ length log.processes → taken (at log stage) (lines.Process number process.target process.args) ≡ Some (at log (Process (begun process.target process.args) None))
+  begins : may_begin stage ≡ true → number ≡ length log.processes → taken (at log stage) (lines.Process number process.target process.args) ≡ Some (at log (Process (process_begun process.target process.args) None))
   begins h e =
-      passed (may_begin stage) _ None h ∙ passed (number == length log.processes) (some (at log (Process (begun process.target process.args) None))) None ((Decides-eqb number (length log.processes)).1 e)
+      passed (may_begin stage) _ None h ∙ passed (number == length log.processes) (some (at log (Process (process_begun process.target process.args) None))) None ((Decides-eqb number (length log.processes)).1 e)
 
   process_is : (rest : List ReportLine) → may_begin stage ≡ true → number ≡ length log.processes → AreWhole process.spans → all_taken (at log stage) (process_lines number process ++ rest) ≡ all_taken (at (with_process log process) Processes) rest
   process_is rest h e whole =
-      bind_at (taken (at log stage) (lines.Process number process.target process.args)) (λ next. all_taken next ((flat_map span_lines process.spans ++ lines.End process.fin ∷ []) ++ rest)) (at log (Process (begun process.target process.args) None)) (all_taken (at (with_process log process) Processes) rest)
+      bind_at (taken (at log stage) (lines.Process number process.target process.args)) (λ next. all_taken next ((flat_map span_lines process.spans ++ lines.End process.fin ∷ []) ++ rest)) (at log (Process (process_begun process.target process.args) None)) (all_taken (at (with_process log process) Processes) rest)
       (begins h e)
-      (ap (all_taken (at log (Process (begun process.target process.args) None))) (regroup (flat_map span_lines process.spans) (lines.End process.fin ∷ []) rest)
-      ∙ spans_are log (begun process.target process.args) None process.spans process.fin rest whole.turns whole.apart)
+      (ap (all_taken (at log (Process (process_begun process.target process.args) None))) (regroup (flat_map span_lines process.spans) (lines.End process.fin ∷ []) rest)
+      ∙ spans_are log (process_begun process.target process.args) None process.spans process.fin rest whole.turns whole.apart)
 
 abbrev with_processes : RunLog → List ProcessLog → RunLog
 with_processes log ps = record log { processes = log.processes ++ ps }
@@ -256,7 +254,7 @@ begun_closed log Processes h = refl
 begun_closed log stage h = absurd cc
 
 -- the lines of a log leave it
-pub log_taken : (log : RunLog) → AllByRecursion (λ p. AreWhole p.spans) log.processes → all_taken opening (log_lines log) ≡ Some (at log Done)
+pub log_taken : (log : RunLog) → AllByRecursion (λ p. AreWhole p.spans) log.processes → all_taken report_opening (log_lines log) ≡ Some (at log Done)
 log_taken log whole =
     let rest = observers_lines 0 log.observers ++ lines.Close ∷ [] in
     entries_are empty_log (published_count log.journal) 0 log.journal (processes_lines 0 log.processes ++ rest) (omega arith)

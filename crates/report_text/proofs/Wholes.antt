@@ -4,17 +4,15 @@ use Rattle.std.proofs.Common.{◌∷◌, ◌++◌, length, take, drop, max, Opti
 use Rattle.std.proofs.Common.{inr, refl, sym, ap, ◌∙◌, subst, arith, append_assoc, append-nil, length-append}
 use Rattle.report_text.proofs.Common.{map, AllByRecursion, flat_map, nat_tests, Decides-eqb, take-append-drop, length-map, take_all, Texts}
 use Rattle.term_core.specs.Gives.{GivesUnless, RefusesUnless}
-use Rattle.report_text.proofs.Texts.{IsNames, ◌>>=◌, Lines, lines, before_lines, lacks, lines_behind, some}
-use Rattle.report_text.proofs.Texts.{some_is, bind_some, bind_at, lines_of, last_line, all_lines}
-use Rattle.report_text.proofs.Texts.{lines_joined, ended_lack, each_append, all_front}
+use Rattle.report_text.proofs.Texts.{IsNames, ◌>>=◌, Lines, lines, before_lines, lacks, lines_behind, some, some_is, bind_some, bind_at}
+use Rattle.report_text.proofs.Texts.{lines_of_text, as_last_line, all_lines, lines_joined, ended_lack, each_append, all_front}
 use Rattle.report_text.proofs.Types.{Entry, Span, ProcessLog, Snapshot, RunLog, ReportFault, ReportLine, Stage, Done, ReportState}
 use Rattle.report_text.proofs.Logs.{published_count, rendering_of, AreWhole, IsWide, IsEntryOf, IsProcessOf}
 use Rattle.report_text.proofs.Logs.{IsSnapshotOf, IsSpanOf, IsLineOf, IsExportOf, IsWellFormed, count-cons}
-use Rattle.report_text.proofs.Forms.{line_reading, line_text, IsReportLine, span_lines, process_lines}
-use Rattle.report_text.proofs.Forms.{processes_lines, export_line, snapshot_lines, observer_lines}
-use Rattle.report_text.proofs.Forms.{observers_lines, log_lines, lines_text, AreCounted, GoesOn, first_lines}
-use Rattle.report_text.proofs.Forms.{StopsAt, EndsAt, FaultAt, FaultOf, at, opening, taken, all_taken}
-use Rattle.report_text.proofs.Forms.{Gives, line_taken, ended_log, last_number, text_ended, on_from, lines_on, bytes_on}
+use Rattle.report_text.proofs.Forms.{line_reading, line_text, IsReportLine, span_lines, process_lines, processes_lines, export_line, snapshot_lines}
+use Rattle.report_text.proofs.Forms.{observer_lines, observers_lines, log_lines, lines_text, AreCounted, GoesOn, first_lines, StopsAt, EndsAt}
+use Rattle.report_text.proofs.Forms.{FaultAt, FaultOf, at, report_opening, taken, all_taken, Gives, line_taken, ended_log, last_number, text_ended}
+use Rattle.report_text.proofs.Forms.{on_from, lines_on, bytes_on}
 use Rattle.report_text.proofs.LineLaws.{line_is, line_again, line_lacks}
 use Rattle.report_text.proofs.WholeLogs.{lines_text-append, rendered, log_taken}
 use Rattle.report_text.proofs.SoFar.{IsGood, Stands, so_far, line_is as step_is, opening_stands, completed}
@@ -134,10 +132,10 @@ joined-append [] ys = refl
 joined-append (x ∷ xs) ys = ap (λ (t : List ℕ). x ++ 10 ∷ t) (joined-append xs ys) ∙ sym (append_assoc x (10 ∷ lines_joined xs) (lines_joined ys))
 
 -- lines that lack a line feed are the first lines of their bytes and more
-lines_in : (texts : Texts) (rest : List ℕ) → AllByRecursion (λ t. lacks 10 t ≡ true) texts → lines_of (lines_joined texts ++ rest) ≡ lines (texts ++ (lines_of rest).ended) (lines_of rest).tail
+lines_in : (texts : Texts) (rest : List ℕ) → AllByRecursion (λ t. lacks 10 t ≡ true) texts → lines_of_text (lines_joined texts ++ rest) ≡ lines (texts ++ (lines_of_text rest).ended) (lines_of_text rest).tail
 lines_in [] rest h = refl
 lines_in (t ∷ texts) rest h =
-    ap lines_of (append_assoc t (10 ∷ lines_joined texts) rest)
+    ap lines_of_text (append_assoc t (10 ∷ lines_joined texts) rest)
     ∙ lines_behind t (lines_joined texts ++ rest) h.0
     ∙ ap (λ (w : Lines). lines (t ∷ w.ended) w.tail) (lines_in texts rest h.1)
 
@@ -179,14 +177,14 @@ module _ (names : Texts) where
   rows_lack sound (l ∷ ls) h = (line_lacks names sound l h.0, rows_lack sound ls h.1)
 
   -- the lines of a report
-  report_lines : (log : RunLog) → IsNames names → IsGood names log → lines_of (rendering_of names log) ≡ lines (map (line_text names) (log_lines log)) []
+  report_lines : (log : RunLog) → IsNames names → IsGood names log → lines_of_text (rendering_of names log) ≡ lines (map (line_text names) (log_lines log)) []
   report_lines log sound h =
-      ap lines_of (rendered names log ∙ sym (joined_rows (log_lines log)) ∙ sym (append-nil (lines_joined (map (line_text names) (log_lines log)))))
+      ap lines_of_text (rendered names log ∙ sym (joined_rows (log_lines log)) ∙ sym (append-nil (lines_joined (map (line_text names) (log_lines log)))))
       ∙ lines_in (map (line_text names) (log_lines log)) [] (rows_lack sound (log_lines log) (log_fits names log h))
       ∙ ap (λ (ts : Texts). lines ts []) (append-nil (map (line_text names) (log_lines log)))
 
-  report_taken : (log : RunLog) → IsNames names → IsGood names log → texts_taken names opening (map (line_text names) (log_lines log)) ≡ Some (at log Done)
-  report_taken log sound h = texts_of names sound opening (log_lines log) (log_fits names log h) ∙ log_taken log (whole_each names log.processes h.well_formed.processes)
+  report_taken : (log : RunLog) → IsNames names → IsGood names log → texts_taken names report_opening (map (line_text names) (log_lines log)) ≡ Some (at log Done)
+  report_taken log sound h = texts_of names sound report_opening (log_lines log) (log_fits names log h) ∙ log_taken log (whole_each names log.processes h.well_formed.processes)
 
   -- ---- the reading, line by line
 
@@ -259,12 +257,12 @@ whole_by : (b : ℕ) (ended : Texts) (tail : List ℕ) (t : Bool) → (b == 10) 
 whole_by b ended tail true is = ap (λ k. k ∷ (lines_joined ended ++ tail)) (sym ((Decides-eqb b 10).0 is))
 whole_by b ended tail false is = whole_before b ended tail
 
-whole_lines : (text : List ℕ) → lines_joined (lines_of text).ended ++ (lines_of text).tail ≡ text
+whole_lines : (text : List ℕ) → lines_joined (lines_of_text text).ended ++ (lines_of_text text).tail ≡ text
 whole_lines [] = refl
-whole_lines (b ∷ bs) = whole_by b (lines_of bs).ended (lines_of bs).tail (b == 10) refl ∙ ap (λ (t : List ℕ). b ∷ t) (whole_lines bs)
+whole_lines (b ∷ bs) = whole_by b (lines_of_text bs).ended (lines_of_text bs).tail (b == 10) refl ∙ ap (λ (t : List ℕ). b ∷ t) (whole_lines bs)
 
-text_whole : (text : List ℕ) → (lines_of text).tail ≡ [] → lines_joined (lines_of text).ended ≡ text
-text_whole text e = sym (append-nil (lines_joined (lines_of text).ended)) ∙ ap (λ (t : List ℕ). lines_joined (lines_of text).ended ++ t) (sym e) ∙ whole_lines text
+text_whole : (text : List ℕ) → (lines_of_text text).tail ≡ [] → lines_joined (lines_of_text text).ended ≡ text
+text_whole text e = sym (append-nil (lines_joined (lines_of_text text).ended)) ∙ ap (λ (t : List ℕ). lines_joined (lines_of_text text).ended ++ t) (sym e) ∙ whole_lines text
 
 -- a log that ended the text
 record IsRead (names : Texts) (text : List ℕ) (log : RunLog) : Type 0 where
@@ -283,28 +281,28 @@ text_done next s [] log e = let d = ended_done (last_number next) s.log s.stage 
 text_done next s (c ∷ tail) log e = absurd cc
 
 module _ (names : Texts) (sound : IsNames names) (text : List ℕ) where
-  read_by : (log : RunLog) → Stopped names opening 1 (lines_of text).ended (bytes_on names opening 1 text) ⊎ Ended names opening 1 (lines_of text).ended (lines_of text).tail (bytes_on names opening 1 text) → bytes_on names opening 1 text ≡ Ok log → IsRead names text log
+  read_by : (log : RunLog) → Stopped names report_opening 1 (lines_of_text text).ended (bytes_on names report_opening 1 text) ⊎ Ended names report_opening 1 (lines_of_text text).ended (lines_of_text text).tail (bytes_on names report_opening 1 text) → bytes_on names report_opening 1 text ≡ Ok log → IsRead names text log
   read_by log (inl h) e = let no = sym h.fault_is ∙ e in absurd cc
   read_by log (inr h) e =
-      let d = text_done (1 + length (lines_of text).ended) h.last (lines_of text).tail log (sym h.end_is ∙ e) in
-      let ls = lines_are names sound opening (lines_of text).ended (at log Done) (opening_stands names) (h.all_are_taken ∙ ap (λ s. some s) d.1) in
+      let d = text_done (1 + length (lines_of_text text).ended) h.last (lines_of_text text).tail log (sym h.end_is ∙ e) in
+      let ls = lines_are names sound report_opening (lines_of_text text).ended (at log Done) (opening_stands names) (h.all_are_taken ∙ ap (λ s. some s) d.1) in
       record {
         good = ls.stands;
         whole = rendered names log ∙ ap (lines_text names) ls.so_far_is ∙ sym (joined_rows names ls.rows_are) ∙ ap lines_joined (sym ls.texts_are) ∙ text_whole text d.0;
       }
 
-  is_read : (log : RunLog) → bytes_on names opening 1 text ≡ Ok log → IsRead names text log
-  is_read log e = read_by log (ended_or_stopped names opening 1 (lines_of text).ended (lines_of text).tail) e
+  is_read : (log : RunLog) → bytes_on names report_opening 1 text ≡ Ok log → IsRead names text log
+  is_read log e = read_by log (ended_or_stopped names report_opening 1 (lines_of_text text).ended (lines_of_text text).tail) e
 
   -- the text of a log is read as it
-  read_again : (log : RunLog) → length text < 2 ^ 32 → IsWellFormed names log → rendering_of names log ≡ text → bytes_on names opening 1 text ≡ Ok log
+  read_again : (log : RunLog) → length text < 2 ^ 32 → IsWellFormed names log → rendering_of names log ≡ text → bytes_on names report_opening 1 text ≡ Ok log
   read_again log short wf e =
       let good : IsGood names log = record { well_formed = wf; counted = counted names log text e short } in
       let texts = map (line_text names) (log_lines log) in
-      ap (λ (w : Lines). lines_on names opening 1 w.ended w.tail) (ap lines_of (sym e) ∙ report_lines names log sound good)
-      ∙ lines_on_taken names opening 1 texts [] (at log Done) (report_taken names log sound good)
+      ap (λ (w : Lines). lines_on names report_opening 1 w.ended w.tail) (ap lines_of_text (sym e) ∙ report_lines names log sound good)
+      ∙ lines_on_taken names report_opening 1 texts [] (at log Done) (report_taken names log sound good)
 
-  pub found_is : (r : Result RunLog ReportFault) → Gives (λ log. log) r (bytes_on names opening 1 text) → IfOk r (λ log. IsWellFormed names log × (rendering_of names log ≡ text))
+  pub found_is : (r : Result RunLog ReportFault) → Gives (λ log. log) r (bytes_on names report_opening 1 text) → IfOk r (λ log. IsWellFormed names log × (rendering_of names log ≡ text))
   found_is (Ok log) g = let is = is_read log g in (is.good.well_formed, is.whole)
   found_is (Err f) g = tt
 
@@ -316,15 +314,15 @@ only_by (Ok made) log read g e = ok_is made log (sym g ∙ e)
 only_by (Err (faults.Syntax n)) log read g e = let no = sym g ∙ e in absurd cc
 only_by (Err faults.NoMemory) log read g e = refl
 
-pub only_is : (names : Texts) → IsNames names → (text : List ℕ) (r : Result RunLog ReportFault) → length text < 2 ^ 32 → Gives (λ log. log) r (bytes_on names opening 1 text) → (log : RunLog) → IsWellFormed names log → rendering_of names log ≡ text → GivesUnless faults.NoMemory r log
-only_is names sound text r short g log wf e = only_by r log (bytes_on names opening 1 text) g (read_again names sound text log short wf e)
+pub only_is : (names : Texts) → IsNames names → (text : List ℕ) (r : Result RunLog ReportFault) → length text < 2 ^ 32 → Gives (λ log. log) r (bytes_on names report_opening 1 text) → (log : RunLog) → IsWellFormed names log → rendering_of names log ≡ text → GivesUnless faults.NoMemory r log
+only_is names sound text r short g log wf e = only_by r log (bytes_on names report_opening 1 text) g (read_again names sound text log short wf e)
 
 -- ---- what goes on
 
 -- lines that are taken go on
-goes_on : (names : Texts) → IsNames names → (texts : Texts) (last : ReportState) → texts_taken names opening texts ≡ Some last → GoesOn names (lines_joined texts)
+goes_on : (names : Texts) → IsNames names → (texts : Texts) (last : ReportState) → texts_taken names report_opening texts ≡ Some last → GoesOn names (lines_joined texts)
 goes_on names sound texts last e =
-    let ls = lines_are names sound opening texts last (opening_stands names) e in
+    let ls = lines_are names sound report_opening texts last (opening_stands names) e in
     let c = completed names last ls.stands in
     record {
       log = c.log;
@@ -336,11 +334,11 @@ goes_on names sound texts last e =
     }
 
 -- lines that go on are taken
-taken_on : (names : Texts) → IsNames names → (texts : Texts) → AllByRecursion (λ t. lacks 10 t ≡ true) texts → GoesOn names (lines_joined texts) → (last : ReportState) × (texts_taken names opening texts ≡ Some last)
+taken_on : (names : Texts) → IsNames names → (texts : Texts) → AllByRecursion (λ t. lacks 10 t ≡ true) texts → GoesOn names (lines_joined texts) → (last : ReportState) × (texts_taken names report_opening texts ≡ Some last)
 taken_on names sound texts lack g =
     let good : IsGood names g.log = record { well_formed = g.well_formed; counted = g.counted } in
-    let all : map (line_text names) (log_lines g.log) ≡ texts ++ (lines_of g.rest).ended = ap (λ (w : Lines). w.ended) (sym (report_lines names g.log sound good) ∙ ap lines_of g.whole ∙ lines_in texts g.rest lack) in
-    let f = front_taken names opening (at g.log Done) texts (lines_of g.rest).ended (ap (texts_taken names opening) (sym all) ∙ report_taken names g.log sound good) in
+    let all : map (line_text names) (log_lines g.log) ≡ texts ++ (lines_of_text g.rest).ended = ap (λ (w : Lines). w.ended) (sym (report_lines names g.log sound good) ∙ ap lines_of_text g.whole ∙ lines_in texts g.rest lack) in
+    let f = front_taken names report_opening (at g.log Done) texts (lines_of_text g.rest).ended (ap (texts_taken names report_opening) (sym all) ∙ report_taken names g.log sound good) in
     (f.0, f.1)
 
 take_front : {X : Type 0} (xs ys : List X) (n : ℕ) → n ≡ length xs → take n (xs ++ ys) ≡ xs
@@ -360,10 +358,10 @@ goes_shorter names a b g = record { log = g.log; well_formed = g.well_formed; co
 -- ---- faults
 
 -- a line that may not stand there
-stopped_fault : (names : Texts) → IsNames names → (text : List ℕ) → Stopped names opening 1 (lines_of text).ended (bytes_on names opening 1 text) → (n : ℕ) → bytes_on names opening 1 text ≡ Err (faults.Syntax n) → FaultAt names text n
+stopped_fault : (names : Texts) → IsNames names → (text : List ℕ) → Stopped names report_opening 1 (lines_of_text text).ended (bytes_on names report_opening 1 text) → (n : ℕ) → bytes_on names report_opening 1 text ≡ Err (faults.Syntax n) → FaultAt names text n
 stopped_fault names sound text h n e =
     let number : 1 + length h.before ≡ n = fault_number (1 + length h.before) n (sym h.fault_is ∙ e) in
-    let ended = (lines_of text).ended in
+    let ended = (lines_of_text text).ended in
     let size = ap length h.texts_are ∙ length-append h.before (h.text ∷ h.others) in
     let front : take (n - 1) ended ≡ h.before = ap (take (n - 1)) h.texts_are ∙ take_front h.before (h.text ∷ h.others) (n - 1) (omega (arith, number)) in
     let longer = length-append h.before (h.text ∷ []) in
@@ -374,7 +372,7 @@ stopped_fault names sound text h n e =
       here = inl (record {
         some = omega (arith, number);
         ended = omega (arith, number, size);
-        stops = λ g. no_more names opening h.last h.before h.text h.before_taken h.not_taken (taken_on names sound (h.before ++ h.text ∷ []) lack (goes_by names (first_lines n text) (lines_joined (h.before ++ h.text ∷ [])) (ap lines_joined here) g));
+        stops = λ g. no_more names report_opening h.last h.before h.text h.before_taken h.not_taken (taken_on names sound (h.before ++ h.text ∷ []) lack (goes_by names (first_lines n text) (lines_joined (h.before ++ h.text ∷ [])) (ap lines_joined here) g));
       });
     }
   where
@@ -390,10 +388,10 @@ stopped_fault names sound text h n e =
         absurd cc
 
 -- all lines were taken, and the text is no report
-ended_fault : (names : Texts) → IsNames names → (text : List ℕ) → length text < 2 ^ 32 → Ended names opening 1 (lines_of text).ended (lines_of text).tail (bytes_on names opening 1 text) → (n : ℕ) → bytes_on names opening 1 text ≡ Err (faults.Syntax n) → n ≡ max 1 (length (all_lines text)) → FaultAt names text n
+ended_fault : (names : Texts) → IsNames names → (text : List ℕ) → length text < 2 ^ 32 → Ended names report_opening 1 (lines_of_text text).ended (lines_of_text text).tail (bytes_on names report_opening 1 text) → (n : ℕ) → bytes_on names report_opening 1 text ≡ Err (faults.Syntax n) → n ≡ max 1 (length (all_lines text)) → FaultAt names text n
 ended_fault names sound text short h n e last =
-    let ended = (lines_of text).ended in
-    let front = front_taken names opening h.last (take (n - 1) ended) (drop (n - 1) ended) (ap (texts_taken names opening) (take-append-drop (n - 1) ended) ∙ h.all_are_taken) in
+    let ended = (lines_of_text text).ended in
+    let front = front_taken names report_opening h.last (take (n - 1) ended) (drop (n - 1) ended) (ap (texts_taken names report_opening) (take-append-drop (n - 1) ended) ∙ h.all_are_taken) in
     record {
       before = goes_on names sound (take (n - 1) ended) front.0 front.1;
       here = inr (record { last = last; none = λ log wf is. no_read (sym (read_again names sound text log short wf is) ∙ e) });
@@ -414,7 +412,7 @@ last_is count = last_step count (nat_lt 1 (1 + count)) refl
     last_step count true e = let some : 1 < 1 + count = grind (arith, nat_tests) in omega (arith, some)
     last_step count false e = let none : 1 + count ≤ 1 = grind (arith, nat_tests) in omega (arith, none)
 
-text_number : (texts : Texts) (tail : List ℕ) (n : ℕ) (s : ReportState) → text_ended (1 + length texts) s tail ≡ Err (faults.Syntax n) → n ≡ max 1 (length (texts ++ last_line tail))
+text_number : (texts : Texts) (tail : List ℕ) (n : ℕ) (s : ReportState) → text_ended (1 + length texts) s tail ≡ Err (faults.Syntax n) → n ≡ max 1 (length (texts ++ as_last_line tail))
 text_number texts [] n s e =
     let all = length-append texts [] in
     ended_number (length texts) n s.log s.stage e ∙ last_is (length texts) ∙ ap (max 1) (sym all)
@@ -427,14 +425,14 @@ text_number texts (c ∷ tail) n s e =
     syntax_number a b e = cc
 
 module _ (names : Texts) (sound : IsNames names) (text : List ℕ) where
-  fault_by : length text < 2 ^ 32 → Stopped names opening 1 (lines_of text).ended (bytes_on names opening 1 text) ⊎ Ended names opening 1 (lines_of text).ended (lines_of text).tail (bytes_on names opening 1 text) → (n : ℕ) → bytes_on names opening 1 text ≡ Err (faults.Syntax n) → FaultAt names text n
+  fault_by : length text < 2 ^ 32 → Stopped names report_opening 1 (lines_of_text text).ended (bytes_on names report_opening 1 text) ⊎ Ended names report_opening 1 (lines_of_text text).ended (lines_of_text text).tail (bytes_on names report_opening 1 text) → (n : ℕ) → bytes_on names report_opening 1 text ≡ Err (faults.Syntax n) → FaultAt names text n
   fault_by short (inl h) n e = stopped_fault names sound text h n e
-  fault_by short (inr h) n e = ended_fault names sound text short h n e (text_number (lines_of text).ended (lines_of text).tail n h.last (sym h.end_is ∙ e))
+  fault_by short (inr h) n e = ended_fault names sound text short h n e (text_number (lines_of_text text).ended (lines_of_text text).tail n h.last (sym h.end_is ∙ e))
 
-  is_fault : length text < 2 ^ 32 → (n : ℕ) → bytes_on names opening 1 text ≡ Err (faults.Syntax n) → FaultAt names text n
-  is_fault short n e = fault_by short (ended_or_stopped names opening 1 (lines_of text).ended (lines_of text).tail) n e
+  is_fault : length text < 2 ^ 32 → (n : ℕ) → bytes_on names report_opening 1 text ≡ Err (faults.Syntax n) → FaultAt names text n
+  is_fault short n e = fault_by short (ended_or_stopped names report_opening 1 (lines_of_text text).ended (lines_of_text text).tail) n e
 
-  pub fault_is : (r : Result RunLog ReportFault) → length text < 2 ^ 32 → Gives (λ log. log) r (bytes_on names opening 1 text) → IfErr r (λ f. FaultOf names text f ⊎ (f ≡ faults.NoMemory))
+  pub fault_is : (r : Result RunLog ReportFault) → length text < 2 ^ 32 → Gives (λ log. log) r (bytes_on names report_opening 1 text) → IfErr r (λ f. FaultOf names text f ⊎ (f ≡ faults.NoMemory))
   fault_is (Ok log) short g = tt
   fault_is (Err (faults.Syntax n)) short g = inl (is_fault short n g)
   fault_is (Err faults.NoMemory) short g = inr refl
@@ -451,17 +449,17 @@ module _ (names : Texts) (text : List ℕ) where
   -- fewer lines from the front
   fewer_lines : (n k : ℕ) → n ≤ k → GoesOn names (first_lines k text) → GoesOn names (first_lines n text)
   fewer_lines n k h g =
-      let ended = (lines_of text).ended in
+      let ended = (lines_of_text text).ended in
       let parts : first_lines k text ≡ lines_joined (take n (take k ended)) ++ lines_joined (drop n (take k ended)) = ap lines_joined (sym (take-append-drop n (take k ended))) ∙ joined-append (take n (take k ended)) (drop n (take k ended)) in
       let front : lines_joined (take n (take k ended)) ≡ first_lines n text = ap lines_joined (take_less n k ended h) in
       goes_by names (lines_joined (take n (take k ended))) (first_lines n text) front (goes_shorter names (lines_joined (take n (take k ended))) (lines_joined (drop n (take k ended))) (goes_by names (first_lines k text) _ parts g))
 
   -- all ended lines of a text that goes on
-  all_on : GoesOn names text → GoesOn names (first_lines (length (lines_of text).ended) text)
+  all_on : GoesOn names text → GoesOn names (first_lines (length (lines_of_text text).ended) text)
   all_on g =
-      let ended = (lines_of text).ended in
+      let ended = (lines_of_text text).ended in
       goes_by names (lines_joined ended) (first_lines (length ended) text) (ap lines_joined (sym (take_all (length ended) ended (omega arith))))
-      (goes_shorter names (lines_joined ended) (lines_of text).tail (goes_by names text (lines_joined ended ++ (lines_of text).tail) (sym (whole_lines text)) g))
+      (goes_shorter names (lines_joined ended) (lines_of_text text).tail (goes_by names text (lines_joined ended ++ (lines_of_text text).tail) (sym (whole_lines text)) g))
 
   later_none : (n m : ℕ) → FaultAt names text n → FaultAt names text m → n < m → ⊥
   later_none n m f g h = by_here f.here g.here
@@ -471,7 +469,7 @@ module _ (names : Texts) (text : List ℕ) where
 
       by_here : StopsAt names text n ⊎ EndsAt names text n → StopsAt names text m ⊎ EndsAt names text m → ⊥
       by_here (inl s) k = s.stops (fewer_lines n (m - 1) (omega (arith, h)) g.before)
-      by_here (inr e) (inl s) = let all = shorter (lines_of text).ended (last_line (lines_of text).tail) in omega (arith, e.last, s.ended, all, h)
+      by_here (inr e) (inl s) = let all = shorter (lines_of_text text).ended (as_last_line (lines_of_text text).tail) in omega (arith, e.last, s.ended, all, h)
       by_here (inr e) (inr d) = omega (arith, e.last, d.last, h)
 
   one_fault : (n m : ℕ) → FaultAt names text n → FaultAt names text m → n ≡ m
@@ -489,10 +487,10 @@ module _ (names : Texts) (sound : IsNames names) (text : List ℕ) where
       whole_on = record { log = log; well_formed = h.good.well_formed; counted = h.good.counted; rest = []; whole = h.whole ∙ sym (append-nil text) }
 
       by_here : StopsAt names text n ⊎ EndsAt names text n → ⊥
-      by_here (inl s) = s.stops (fewer_lines names text n (length (lines_of text).ended) s.ended (all_on names text whole_on))
+      by_here (inl s) = s.stops (fewer_lines names text n (length (lines_of_text text).ended) s.ended (all_on names text whole_on))
       by_here (inr e) = e.none log h.good.well_formed h.whole
 
-  pub refused_is : (r : Result RunLog ReportFault) → length text < 2 ^ 32 → Gives (λ log. log) r (bytes_on names opening 1 text) → (f : ReportFault) → FaultOf names text f → RefusesUnless faults.NoMemory r f
+  pub refused_is : (r : Result RunLog ReportFault) → length text < 2 ^ 32 → Gives (λ log. log) r (bytes_on names report_opening 1 text) → (f : ReportFault) → FaultOf names text f → RefusesUnless faults.NoMemory r f
   refused_is (Ok log) short g (faults.Syntax n) h = no_fault log short (is_read names sound text log g) n h
   refused_is (Ok log) short g faults.NoMemory h = h
   refused_is (Err (faults.Syntax m)) short g (faults.Syntax n) h = inl (ap (λ k. faults.Syntax k) (one_fault names text m n (is_fault names sound text short m g) h))

@@ -8,7 +8,7 @@ use Rattle.server_core.specs.declared.command.Cmd.{Cmd}
 use Rattle.server_core.specs.declared.command.Cmd.TheVariants.{Load, Delete, SoftPurge, Doom, Purge, CheckOld, Put, Erase, Trace, Spawn, Release}
 use Rattle.term_core.specs.Text.Steps.{◌>>=◌}
 use Rattle.term_core.specs.Text.Cuts.{cut_at}
-use Rattle.term_core.specs.Text.Parts.{parts_of, each_reading}
+use Rattle.term_core.specs.Text.Parts.{parts_between, each_reading}
 use Rattle.term_core.specs.Text.Words.{switch_reading}
 use Rattle.term_core.specs.Text.Words.{number_reading}
 use Rattle.mod_text.specs.LineReading.{version_reading}
@@ -21,7 +21,7 @@ reference_reading names text = paired 46 (atom_reading names) version_reading te
 
 -- a load, of modules with spaces between them
 abbrev pub load_reading : List (List ℕ) → List ℕ → Option Cmd
-load_reading names text = each_reading (reference_reading names) (parts_of 32 text) >>= λ refs. Some (Load refs)
+load_reading names text = each_reading (reference_reading names) (parts_between 32 text) >>= λ refs. Some (Load refs)
 
 -- a put
 abbrev pub put_reading : List (List ℕ) → List ℕ → Option Cmd

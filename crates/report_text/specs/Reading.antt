@@ -2,7 +2,7 @@
 -- Source: this project's report text. What a report's text is stands in run_log; laws say that both agree.
 use Rattle.std.specs.Prelude.{◌≡◌, ℕ, ◌+◌, ◌-◌, nat_lt, List, [], ◌∷◌, Option, Some, None, Result, Ok, Err, if◌then◌else◌}
 use Rattle.term_core.specs.Text.Steps.{◌>>=◌}
-use Rattle.term_core.specs.Text.Parts.{lines_of}
+use Rattle.term_core.specs.Text.Parts.{lines_of_text}
 use Rattle.run_log.specs.declared.logs.RunLog.{RunLog}
 use Rattle.report_text.specs.declared.fault.ReportFault.{ReportFault}
 use Rattle.report_text.specs.declared.fault.ReportFault.TheVariants.{Syntax, NoMemory}
@@ -57,4 +57,4 @@ lines_on names s number (line ∷ lines) tail = on_from number (line_taken names
 
 -- the log of the bytes from a state on
 abbrev pub bytes_on : List (List ℕ) → ReportState → ℕ → List ℕ → Result RunLog ReportFault
-bytes_on names s number text = lines_on names s number (lines_of text).ended (lines_of text).tail
+bytes_on names s number text = lines_on names s number (lines_of_text text).ended (lines_of_text text).tail

@@ -11,7 +11,7 @@ use Rattle.server_core.specs.declared.command.Reply.{Reply}
 use Rattle.server_core.specs.declared.command.Reply.TheVariants as replies
 use Rattle.term_core.specs.Text.Steps.{◌>>=◌}
 use Rattle.term_core.specs.Text.Cuts.{cut_at}
-use Rattle.term_core.specs.Text.Parts.{parts_of, each_reading}
+use Rattle.term_core.specs.Text.Parts.{parts_between, each_reading}
 use Rattle.run_log.specs.WellFormed.{lingering_in, is_true_reply}
 use Rattle.term_core.specs.Text.Words.{narrow_reading, number_reading}
 use Rattle.report_text.specs.WordReading.{atom_reading}
@@ -30,7 +30,7 @@ limit_reading text =
 -- atoms with commas between them
 abbrev pub atoms_reading : List (List ℕ) → List ℕ → Option (List AtomId)
 atoms_reading names [] = Some []
-atoms_reading names (c ∷ text) = each_reading (atom_reading names) (parts_of 44 (c ∷ text))
+atoms_reading names (c ∷ text) = each_reading (atom_reading names) (parts_between 44 (c ∷ text))
 
 -- atoms in front of a bracket that ends the text
 abbrev pub closed_atoms : List (List ℕ) → List ℕ → Option (List AtomId)

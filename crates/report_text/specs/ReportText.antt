@@ -1,7 +1,7 @@
 -- What is wrong with a text that is no report: the first line after which no report goes on.
 -- Source: this project's report text. It speaks of whole texts; the code reads line by line.
 use Rattle.std.specs.Prelude.{◌≡◌, ℕ, ◌-◌, ◌<◌, ◌≤◌, ◌^◌, ◌⊎◌, List, ◌++◌, length, take, max}
-use Rattle.term_core.specs.Text.Parts.{lines_of, all_lines, lines_joined}
+use Rattle.term_core.specs.Text.Parts.{lines_of_text, all_lines, lines_joined}
 use Rattle.run_log.specs.declared.logs.RunLog.{RunLog}
 use Rattle.run_log.specs.Journal.{published_count}
 use Rattle.run_log.specs.Report.{rendering_of}
@@ -26,12 +26,12 @@ pub record GoesOn (names : List (List ℕ)) (bytes : List ℕ) : Type 0 where
 
 -- the ended lines of a text, so many from the front
 abbrev pub first_lines : ℕ → List ℕ → List ℕ
-first_lines count text = lines_joined (take count (lines_of text).ended)
+first_lines count text = lines_joined (take count (lines_of_text text).ended)
 
 -- the line with this number has ended, and no report goes on after it
 pub record StopsAt (names : List (List ℕ)) (text : List ℕ) (line : ℕ) : Type 0 where
   pub some : 0 < line
-  pub ended : line ≤ length (lines_of text).ended
+  pub ended : line ≤ length (lines_of_text text).ended
   pub stops : GoesOn names (first_lines line text) → ⊥
 
 -- the line with this number is the last, or 1 where there is none, and the text is no report

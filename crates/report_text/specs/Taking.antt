@@ -27,8 +27,8 @@ abbrev pub empty_log : RunLog
 empty_log = record { journal = []; processes = []; observers = [] }
 
 -- nothing is read yet
-abbrev pub opening : ReportState
-opening = at empty_log Head
+abbrev pub report_opening : ReportState
+report_opening = at empty_log Head
 
 -- the head stands first
 abbrev pub head_taken : RunLog → Stage → Option ReportState
@@ -65,12 +65,12 @@ may_begin Processes = true
 may_begin stage = false
 
 -- a process without a span, as if it ended here
-abbrev pub begun : Mfa → List PlainTerm → ProcessLog
-begun target args = record { target = target; args = args; spans = []; fin = Normal }
+abbrev pub process_begun : Mfa → List PlainTerm → ProcessLog
+process_begun target args = record { target = target; args = args; spans = []; fin = Normal }
 
 -- a process begins with the next number
 abbrev pub process_behind : RunLog → ℕ → Mfa → List PlainTerm → Option ReportState
-process_behind log number target args = if number == length log.processes then Some (at log (Process (begun target args) None)) else None
+process_behind log number target args = if number == length log.processes then Some (at log (Process (process_begun target args) None)) else None
 
 -- a process begins where no other goes on
 abbrev pub process_taken : RunLog → Stage → ℕ → Mfa → List PlainTerm → Option ReportState
@@ -86,14 +86,14 @@ abbrev pub spans_closed : ProcessLog → Option Span → ProcessLog
 spans_closed process going = record process { spans = with_going process.spans going }
 
 -- whether a span has a turn, and another generation than the one before it
-abbrev pub may_follow : Option Span → ℕ → ℕ → Bool
-may_follow None generation turns = nat_lt 0 turns
-may_follow (Some span) generation turns = nat_lt 0 turns && not (span.generation == generation)
+abbrev pub span_may_follow : Option Span → ℕ → ℕ → Bool
+span_may_follow None generation turns = nat_lt 0 turns
+span_may_follow (Some span) generation turns = nat_lt 0 turns && not (span.generation == generation)
 
 -- a span stands in a process
 abbrev pub span_taken : RunLog → Stage → ℕ → ℕ → Option ReportState
 span_taken log (Process process going) generation turns =
-    if may_follow going generation turns then Some (at log (Process (spans_closed process going) (Some (record { generation = generation; turns = turns; lines = [] })))) else None
+    if span_may_follow going generation turns then Some (at log (Process (spans_closed process going) (Some (record { generation = generation; turns = turns; lines = [] })))) else None
 span_taken log stage generation turns = None
 
 -- a span with one more line
@@ -111,8 +111,8 @@ shown_taken log (Process process going) line = shown_in log process going line
 shown_taken log stage line = None
 
 -- a process that ended so
-abbrev pub ended : ProcessLog → End → ProcessLog
-ended process fin = record process { fin = fin }
+abbrev pub process_ended : ProcessLog → End → ProcessLog
+process_ended process fin = record process { fin = fin }
 
 -- a log with one more process
 abbrev pub with_process : RunLog → ProcessLog → RunLog
@@ -120,7 +120,7 @@ with_process log process = record log { processes = log.processes ++ process ∷
 
 -- an end stands in a process
 abbrev pub end_taken : RunLog → Stage → End → Option ReportState
-end_taken log (Process process going) fin = Some (at (with_process log (ended (spans_closed process going) fin)) Processes)
+end_taken log (Process process going) fin = Some (at (with_process log (process_ended (spans_closed process going) fin)) Processes)
 end_taken log stage fin = None
 
 -- ---- observers

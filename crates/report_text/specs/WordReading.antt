@@ -8,10 +8,10 @@ use Rattle.report_text.specs.declared.line_fault.LineFault.{LineFault}
 use Rattle.report_text.specs.declared.line_fault.LineFault.TheVariants.{Form, NoMemory}
 
 -- what was answered, seen by view, is what is read; nothing is read where the form is refused; want of memory is free
-abbrev pub Reads : {X A : Type 0} → (X → A) → Result X LineFault → Option A → Type 0
-Reads view (Ok x) read = read ≡ Some (view x)
-Reads view (Err Form) read = read ≡ None
-Reads view (Err NoMemory) read = Unit {0}
+abbrev pub ReadsWord : {X A : Type 0} → (X → A) → Result X LineFault → Option A → Type 0
+ReadsWord view (Ok x) read = read ≡ Some (view x)
+ReadsWord view (Err Form) read = read ≡ None
+ReadsWord view (Err NoMemory) read = Unit {0}
 
 -- the two sides of a byte, if there is one further on; else of this byte, if it is the one
 abbrev pub cut_or : ℕ → ℕ → List ℕ → Option (List ℕ × List ℕ) → Option (List ℕ × List ℕ)

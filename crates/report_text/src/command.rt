@@ -1,8 +1,8 @@
 //! Commands, as the entries of a report have them.
 
 ghost use Rattle.std.specs.Prelude.{◌≡◌};
-ghost use Rattle.term_core.specs.Text.Parts.{parts_of, each_reading};
-ghost use Rattle.report_text.specs.WordReading.{Reads};
+ghost use Rattle.term_core.specs.Text.Parts.{parts_between, each_reading};
+ghost use Rattle.report_text.specs.WordReading.{ReadsWord};
 ghost use Rattle.report_text.specs.CommandReading.{reference_reading, put_reading, trace_reading, spawn_reading, on_atom_reading, worded_command, command_reading};
 
 use crate::line_fault::LineFault;
@@ -24,14 +24,14 @@ fn reference_of(names: &Names, text: &[u8]) -> Option<ModRef>
 }
 
 fn read_reference(names: &Names, text: &[u8]) -> Result<ModRef, LineFault>
-    ensures { Reads (λ to. to) result (reference_reading names.now text.now) }
+    ensures { ReadsWord (λ to. to) result (reference_reading names.now text.now) }
 {
     reference_of(names, text).ok_or(LineFault::Form)
 }
 
 /// The modules of a load, with spaces between them.
 fn read_references(alloc: Global, names: &Names, text: &[u8]) -> Result<RefList, LineFault>
-    ensures { Reads (λ refs. refs) result (each_reading (reference_reading names.now) (parts_of 32 text.now)) }
+    ensures { ReadsWord (λ refs. refs) result (each_reading (reference_reading names.now) (parts_between 32 text.now)) }
 {
     let mut refs = RefList::new(alloc);
     let mut rest = Some(text);
@@ -44,7 +44,7 @@ fn read_references(alloc: Global, names: &Names, text: &[u8]) -> Result<RefList,
 }
 
 fn read_put(alloc: Global, names: &Names, text: &[u8]) -> Result<Cmd, LineFault>
-    ensures { Reads (λ cmd. cmd) result (put_reading names.now text.now) }
+    ensures { ReadsWord (λ cmd. cmd) result (put_reading names.now text.now) }
 {
     let (key, rest) = cut_at(text, b' ').ok_or(LineFault::Form)?;
     let key = atom_of(names, key).ok_or(LineFault::Form)?;
@@ -53,7 +53,7 @@ fn read_put(alloc: Global, names: &Names, text: &[u8]) -> Result<Cmd, LineFault>
 }
 
 fn read_trace(names: &Names, text: &[u8]) -> Result<Cmd, LineFault>
-    ensures { Reads (λ cmd. cmd) result (trace_reading names.now text.now) }
+    ensures { ReadsWord (λ cmd. cmd) result (trace_reading names.now text.now) }
 {
     let (target, on) = cut_at(text, b' ').ok_or(LineFault::Form)?;
     let target = function_of(names, target).ok_or(LineFault::Form)?;
@@ -62,7 +62,7 @@ fn read_trace(names: &Names, text: &[u8]) -> Result<Cmd, LineFault>
 }
 
 fn read_spawn(alloc: Global, names: &Names, text: &[u8]) -> Result<Cmd, LineFault>
-    ensures { Reads (λ cmd. cmd) result (spawn_reading names.now text.now) }
+    ensures { ReadsWord (λ cmd. cmd) result (spawn_reading names.now text.now) }
 {
     let call = read_call(alloc, names, text)?;
     Ok(Cmd::Spawn {
@@ -73,7 +73,7 @@ fn read_spawn(alloc: Global, names: &Names, text: &[u8]) -> Result<Cmd, LineFaul
 
 /// A command of one atom. What processes did is in the reply: here none lingers and none was killed.
 fn read_on_atom(names: &Names, word: &[u8], text: &[u8]) -> Result<Cmd, LineFault>
-    ensures { Reads (λ cmd. cmd) result (on_atom_reading names.now word.now text.now) }
+    ensures { ReadsWord (λ cmd. cmd) result (on_atom_reading names.now word.now text.now) }
 {
     let name = atom_of(names, text).ok_or(LineFault::Form)?;
     if word == b"delete".as_slice() {
@@ -100,7 +100,7 @@ fn read_on_atom(names: &Names, word: &[u8], text: &[u8]) -> Result<Cmd, LineFaul
 }
 
 fn read_worded(alloc: Global, names: &Names, word: &[u8], text: &[u8]) -> Result<Cmd, LineFault>
-    ensures { Reads (λ cmd. cmd) result (worded_command names.now word.now text.now) }
+    ensures { ReadsWord (λ cmd. cmd) result (worded_command names.now word.now text.now) }
 {
     if word == b"load".as_slice() {
         Ok(Cmd::Load(read_references(alloc, names, text)?))
@@ -119,7 +119,7 @@ fn read_worded(alloc: Global, names: &Names, word: &[u8], text: &[u8]) -> Result
 
 /// A command, by the word in front.
 pub fn read_command(alloc: Global, names: &Names, text: &[u8]) -> Result<Cmd, LineFault>
-    ensures { Reads (λ cmd. cmd) result (command_reading names.now text.now) }
+    ensures { ReadsWord (λ cmd. cmd) result (command_reading names.now text.now) }
 {
     let (word, rest) = cut_at(text, b' ').ok_or(LineFault::Form)?;
     read_worded(alloc, names, word, rest)

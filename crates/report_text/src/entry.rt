@@ -1,7 +1,7 @@
 //! The entries of a report's journal.
 
 ghost use Rattle.std.specs.Prelude.{◌≡◌};
-ghost use Rattle.report_text.specs.WordReading.{Reads};
+ghost use Rattle.report_text.specs.WordReading.{ReadsWord};
 ghost use Rattle.report_text.specs.EntryReading.{who_reading, command_front, answer_reading, made_reading, entry_reading};
 
 use crate::command::read_command;
@@ -41,7 +41,7 @@ fn who_of(text: &[u8]) -> Option<Who>
 
 /// A command, with one space behind it.
 fn read_command_front(alloc: Global, names: &Names, text: &[u8]) -> Result<Cmd, LineFault>
-    ensures { Reads (λ cmd. cmd) result (command_front names.now text.now) }
+    ensures { ReadsWord (λ cmd. cmd) result (command_front names.now text.now) }
 {
     let (cmd, behind) = cut_last(text, b' ').ok_or(LineFault::Form)?;
     if !behind.is_empty() {
@@ -52,7 +52,7 @@ fn read_command_front(alloc: Global, names: &Names, text: &[u8]) -> Result<Cmd, 
 
 /// A reply with one space in front of it, and behind its last space what was published.
 fn read_answer(alloc: Global, names: &Names, text: &[u8]) -> Result<Answer, LineFault>
-    ensures { Reads (λ answer. answer) result (answer_reading names.now text.now) }
+    ensures { ReadsWord (λ answer. answer) result (answer_reading names.now text.now) }
 {
     match text.split_first() {
         Some((b' ', answer)) => {
@@ -67,7 +67,7 @@ fn read_answer(alloc: Global, names: &Names, text: &[u8]) -> Result<Answer, Line
 
 /// A command and its answer, with ` = ` between them.
 fn read_made(alloc: Global, names: &Names, text: &[u8]) -> Result<Made, LineFault>
-    ensures { Reads (λ made. made) result (made_reading names.now text.now) }
+    ensures { ReadsWord (λ made. made) result (made_reading names.now text.now) }
 {
     let (cmd, answer) = cut_at(text, b'=').ok_or(LineFault::Form)?;
     let cmd = read_command_front(alloc, names, cmd)?;
@@ -77,7 +77,7 @@ fn read_made(alloc: Global, names: &Names, text: &[u8]) -> Result<Made, LineFaul
 
 /// An entry, behind its word.
 pub fn read_entry(alloc: Global, names: &Names, text: &[u8]) -> Result<Entry, LineFault>
-    ensures { Reads (λ entry. entry) result (entry_reading names.now text.now) }
+    ensures { ReadsWord (λ entry. entry) result (entry_reading names.now text.now) }
 {
     let (who, rest) = cut_at(text, b' ').ok_or(LineFault::Form)?;
     let who = who_of(who).ok_or(LineFault::Form)?;

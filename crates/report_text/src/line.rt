@@ -1,7 +1,7 @@
 //! The lines of a report.
 
 ghost use Rattle.std.specs.Prelude.{◌≡◌};
-ghost use Rattle.report_text.specs.WordReading.{Reads};
+ghost use Rattle.report_text.specs.WordReading.{ReadsWord};
 ghost use Rattle.report_text.specs.LineReading.{end_reading, longer_end, worded_end, process_reading, span_reading, export_reading, trace_line_reading, number_line, plain_line, worded_line, longer_line, line_reading};
 
 use crate::entry::read_entry;
@@ -81,7 +81,7 @@ fn end_of(names: &Names, text: &[u8]) -> Option<End>
 }
 
 fn read_process(alloc: Global, names: &Names, text: &[u8]) -> Result<ReportLine, LineFault>
-    ensures { Reads (λ line. line) result (process_reading names.now text.now) }
+    ensures { ReadsWord (λ line. line) result (process_reading names.now text.now) }
 {
     let (number, rest) = cut_at(text, b' ').ok_or(LineFault::Form)?;
     let number = number_of(number).ok_or(LineFault::Form)?;
@@ -112,7 +112,7 @@ fn read_export(names: &Names, text: &[u8]) -> Option<ReportLine>
 }
 
 fn read_trace(alloc: Global, names: &Names, text: &[u8]) -> Result<ReportLine, LineFault>
-    ensures { Reads (λ line. line) result (trace_line_reading names.now text.now) }
+    ensures { ReadsWord (λ line. line) result (trace_line_reading names.now text.now) }
 {
     let call = read_call(alloc, names, text)?;
     Ok(ReportLine::Shown(Line::Trace {
@@ -158,7 +158,7 @@ fn worded_line(
     word: &[u8],
     text: &[u8],
 ) -> Result<ReportLine, LineFault>
-    ensures { Reads (λ line. line) result (worded_line names.now word.now text.now) }
+    ensures { ReadsWord (λ line. line) result (worded_line names.now word.now text.now) }
 {
     if word == b"entry".as_slice() {
         Ok(ReportLine::Entry(read_entry(alloc, names, text)?))
@@ -174,7 +174,7 @@ fn worded_line(
 }
 
 fn longer_line(alloc: Global, names: &Names, text: &[u8]) -> Result<ReportLine, LineFault>
-    ensures { Reads (λ line. line) result (longer_line names.now text.now) }
+    ensures { ReadsWord (λ line. line) result (longer_line names.now text.now) }
 {
     let (word, rest) = cut_at(text, b' ').ok_or(LineFault::Form)?;
     worded_line(alloc, names, word, rest)
@@ -182,7 +182,7 @@ fn longer_line(alloc: Global, names: &Names, text: &[u8]) -> Result<ReportLine, 
 
 /// A line, without its line feed.
 pub fn read_line(alloc: Global, names: &Names, text: &[u8]) -> Result<ReportLine, LineFault>
-    ensures { Reads (λ line. line) result (line_reading names.now text.now) }
+    ensures { ReadsWord (λ line. line) result (line_reading names.now text.now) }
 {
     if text == b"beam report 1".as_slice() {
         Ok(ReportLine::Head)

@@ -8,8 +8,8 @@ ghost use Rattle.run_log.specs.Report.{rendering_of};
 ghost use Rattle.run_log.specs.WellFormed.{IsWellFormed};
 ghost use Rattle.report_text.specs.declared.fault.ReportFault.{ReportFault as FaultValue};
 ghost use Rattle.report_text.specs.ReportText.{FaultOf};
-ghost use Rattle.report_text.specs.WordReading.{Reads};
-ghost use Rattle.report_text.specs.Taking.{opening};
+ghost use Rattle.report_text.specs.WordReading.{ReadsWord};
+ghost use Rattle.report_text.specs.Taking.{report_opening};
 ghost use Rattle.report_text.specs.Reading.{Gives, line_taken, numbered, ended_log, last_number, text_ended, bytes_on};
 
 use crate::fault::ReportFault;
@@ -27,7 +27,7 @@ fn take_text(
     state: ReportState,
     text: &[u8],
 ) -> Result<ReportState, LineFault>
-    ensures { Reads (λ state. state) result (line_taken names.now state text.now) }
+    ensures { ReadsWord (λ state. state) result (line_taken names.now state text.now) }
 {
     let line = read_line(alloc, names, text)?;
     take_line(alloc, state, line)
@@ -89,7 +89,7 @@ fn end_text(state: ReportState, tail: &[u8], next: u64) -> Result<RunLog, Report
 /// The log of a text, line by line.
 fn read_lines(alloc: Global, names: &Names, text: &[u8]) -> Result<RunLog, ReportFault>
     requires { length text.now < 2 ^ 32 }
-    ensures { Gives (λ log. log) result (bytes_on names.now opening 1 text.now) }
+    ensures { Gives (λ log. log) result (bytes_on names.now report_opening 1 text.now) }
 {
     let mut state = opening(alloc);
     let mut rest = text;

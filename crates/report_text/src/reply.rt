@@ -1,8 +1,8 @@
 //! Replies, as the entries of a report have them, and what a command has of them.
 
 ghost use Rattle.std.specs.Prelude.{◌≡◌};
-ghost use Rattle.term_core.specs.Text.Parts.{parts_of, each_reading};
-ghost use Rattle.report_text.specs.WordReading.{Reads, atom_reading};
+ghost use Rattle.term_core.specs.Text.Parts.{parts_between, each_reading};
+ghost use Rattle.report_text.specs.WordReading.{ReadsWord, atom_reading};
 ghost use Rattle.run_log.specs.WellFormed.{lingering_in, is_true_reply};
 ghost use Rattle.report_text.specs.ReplyReading.{linger_reading, limit_reading, atoms_reading, closed_atoms, not_purged_reading, worded_reply, longer_reply, reply_reading, published_reading, agreed};
 
@@ -37,14 +37,14 @@ fn limit_of(text: &[u8]) -> Option<Limit>
 }
 
 fn read_atom(names: &Names, text: &[u8]) -> Result<AtomId, LineFault>
-    ensures { Reads (λ atom. atom) result (atom_reading names.now text.now) }
+    ensures { ReadsWord (λ atom. atom) result (atom_reading names.now text.now) }
 {
     atom_of(names, text).ok_or(LineFault::Form)
 }
 
 /// Atoms with commas between them, at least one.
 fn read_some_atoms(alloc: Global, names: &Names, text: &[u8]) -> Result<AtomList, LineFault>
-    ensures { Reads (λ atoms. atoms) result (each_reading (atom_reading names.now) (parts_of 44 text.now)) }
+    ensures { ReadsWord (λ atoms. atoms) result (each_reading (atom_reading names.now) (parts_between 44 text.now)) }
 {
     let mut atoms = AtomList::new(alloc);
     let mut rest = Some(text);
@@ -57,7 +57,7 @@ fn read_some_atoms(alloc: Global, names: &Names, text: &[u8]) -> Result<AtomList
 }
 
 fn read_atoms(alloc: Global, names: &Names, text: &[u8]) -> Result<AtomList, LineFault>
-    ensures { Reads (λ atoms. atoms) result (atoms_reading names.now text.now) }
+    ensures { ReadsWord (λ atoms. atoms) result (atoms_reading names.now text.now) }
 {
     if text.is_empty() {
         return Ok(AtomList::new(alloc));
@@ -67,7 +67,7 @@ fn read_atoms(alloc: Global, names: &Names, text: &[u8]) -> Result<AtomList, Lin
 
 /// Atoms in front of a bracket that ends the text.
 fn read_closed_atoms(alloc: Global, names: &Names, text: &[u8]) -> Result<AtomList, LineFault>
-    ensures { Reads (λ atoms. atoms) result (closed_atoms names.now text.now) }
+    ensures { ReadsWord (λ atoms. atoms) result (closed_atoms names.now text.now) }
 {
     let (inside, behind) = cut_at(text, b']').ok_or(LineFault::Form)?;
     if !behind.is_empty() {
@@ -78,7 +78,7 @@ fn read_closed_atoms(alloc: Global, names: &Names, text: &[u8]) -> Result<AtomLi
 
 /// Modules in brackets, as `[m,n]`.
 fn read_not_purged(alloc: Global, names: &Names, text: &[u8]) -> Result<Reply, LineFault>
-    ensures { Reads (λ reply. reply) result (not_purged_reading names.now text.now) }
+    ensures { ReadsWord (λ reply. reply) result (not_purged_reading names.now text.now) }
 {
     match text.split_first() {
         Some((b'[', inside)) => Ok(Reply::NotPurged(read_closed_atoms(alloc, names, inside)?)),
@@ -87,7 +87,7 @@ fn read_not_purged(alloc: Global, names: &Names, text: &[u8]) -> Result<Reply, L
 }
 
 fn read_worded(alloc: Global, names: &Names, word: &[u8], text: &[u8]) -> Result<Reply, LineFault>
-    ensures { Reads (λ reply. reply) result (worded_reply names.now word.now text.now) }
+    ensures { ReadsWord (λ reply. reply) result (worded_reply names.now word.now text.now) }
 {
     if word == b"false".as_slice() {
         Ok(Reply::FalseBy(linger_of(text).ok_or(LineFault::Form)?))
@@ -103,7 +103,7 @@ fn read_worded(alloc: Global, names: &Names, word: &[u8], text: &[u8]) -> Result
 }
 
 fn read_longer(alloc: Global, names: &Names, text: &[u8]) -> Result<Reply, LineFault>
-    ensures { Reads (λ reply. reply) result (longer_reply names.now text.now) }
+    ensures { ReadsWord (λ reply. reply) result (longer_reply names.now text.now) }
 {
     let (word, rest) = cut_at(text, b' ').ok_or(LineFault::Form)?;
     read_worded(alloc, names, word, rest)
@@ -111,7 +111,7 @@ fn read_longer(alloc: Global, names: &Names, text: &[u8]) -> Result<Reply, LineF
 
 /// A reply.
 pub fn read_reply(alloc: Global, names: &Names, text: &[u8]) -> Result<Reply, LineFault>
-    ensures { Reads (λ reply. reply) result (reply_reading names.now text.now) }
+    ensures { ReadsWord (λ reply. reply) result (reply_reading names.now text.now) }
 {
     if text == b"ok".as_slice() {
         Ok(Reply::Ok)

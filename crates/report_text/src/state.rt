@@ -1,8 +1,8 @@
 //! A report up to a line: what is read of its log, and which lines may follow.
 
 ghost use Rattle.std.specs.Prelude.{◌≡◌};
-ghost use Rattle.report_text.specs.WordReading.{Reads};
-ghost use Rattle.report_text.specs.Taking.{at, opening, head_taken, count_taken, close_taken, taken};
+ghost use Rattle.report_text.specs.WordReading.{ReadsWord};
+ghost use Rattle.report_text.specs.Taking.{at, report_opening, head_taken, count_taken, close_taken, taken};
 
 mod journal;
 mod observer;
@@ -52,7 +52,7 @@ fn at(log: RunLog, stage: Stage) -> ReportState
 
 /// Nothing is read yet. It takes no memory.
 pub fn opening(alloc: Global) -> ReportState
-    ensures { result ≡ opening }
+    ensures { result ≡ report_opening }
 {
     let log = RunLog {
         journal: EntryList::new(alloc),
@@ -63,7 +63,7 @@ pub fn opening(alloc: Global) -> ReportState
 }
 
 fn take_head(log: RunLog, stage: Stage) -> Result<ReportState, LineFault>
-    ensures { Reads (λ state. state) result (head_taken log stage) }
+    ensures { ReadsWord (λ state. state) result (head_taken log stage) }
 {
     match stage {
         Stage::Head => Ok(at(log, Stage::Count)),
@@ -72,7 +72,7 @@ fn take_head(log: RunLog, stage: Stage) -> Result<ReportState, LineFault>
 }
 
 fn take_count(log: RunLog, stage: Stage, count: u64) -> Result<ReportState, LineFault>
-    ensures { Reads (λ state. state) result (count_taken log stage count) }
+    ensures { ReadsWord (λ state. state) result (count_taken log stage count) }
 {
     match stage {
         Stage::Count => Ok(at(log, Stage::Entries(count))),
@@ -81,7 +81,7 @@ fn take_count(log: RunLog, stage: Stage, count: u64) -> Result<ReportState, Line
 }
 
 fn take_close(log: RunLog, stage: Stage) -> Result<ReportState, LineFault>
-    ensures { Reads (λ state. state) result (close_taken log stage) }
+    ensures { ReadsWord (λ state. state) result (close_taken log stage) }
 {
     let log = observers_closed(log, stage)?;
     Ok(at(log, Stage::Done))
@@ -93,7 +93,7 @@ pub fn take_line(
     state: ReportState,
     line: ReportLine,
 ) -> Result<ReportState, LineFault>
-    ensures { Reads (λ state. state) result (taken state line) }
+    ensures { ReadsWord (λ state. state) result (taken state line) }
 {
     let ReportState { log, stage } = state;
     match line {

@@ -5,7 +5,7 @@ ghost use Rattle.term_core.specs.Plain.{plain, term_of};
 ghost use Rattle.term_core.specs.TermText.{term_text};
 ghost use Rattle.term_core.specs.TermParts.{parts_of_terms};
 ghost use Rattle.term_core.specs.Text.Parts.{each_reading};
-ghost use Rattle.report_text.specs.WordReading.{Reads};
+ghost use Rattle.report_text.specs.WordReading.{ReadsWord};
 ghost use Rattle.report_text.specs.TermReading.{is_short_text, plain_reading, some_terms, terms_reading, closed_reading, arity_part, function_reading, arguments_part, call_reading};
 
 use crate::line_fault::LineFault;
@@ -44,8 +44,8 @@ fn has_text(alloc: Global, names: &Names, term: &Term, text: &[u8]) -> Result<bo
 
 /// A term whose atoms have names: of another text, the term that is built has another text.
 pub fn read_term(alloc: Global, names: &Names, text: &[u8]) -> Result<Term, LineFault>
-    ensures shown { Reads plain result (plain_reading names.now text.now) }
-    ensures term { Reads (λ term. term) result (option_map term_of (plain_reading names.now text.now)) }
+    ensures shown { ReadsWord plain result (plain_reading names.now text.now) }
+    ensures term { ReadsWord (λ term. term) result (option_map term_of (plain_reading names.now text.now)) }
 {
     if !is_short_text(alloc, text)? {
         return Err(LineFault::Form);
@@ -77,7 +77,7 @@ fn has_few_parts(text: &[u8]) -> bool
 
 /// Terms with commas between them, at least one.
 fn read_some_terms(alloc: Global, names: &Names, text: &[u8]) -> Result<TermList, LineFault>
-    ensures { Reads (λ terms. terms) result (each_reading (plain_reading names.now) (parts_of_terms text.now)) }
+    ensures { ReadsWord (λ terms. terms) result (each_reading (plain_reading names.now) (parts_of_terms text.now)) }
 {
     let mut terms = TermList::new(alloc);
     let mut rest = Some(text);
@@ -90,7 +90,7 @@ fn read_some_terms(alloc: Global, names: &Names, text: &[u8]) -> Result<TermList
 }
 
 fn read_few_terms(alloc: Global, names: &Names, text: &[u8]) -> Result<TermList, LineFault>
-    ensures read { Reads (λ terms. terms) result (some_terms names.now text.now) }
+    ensures read { ReadsWord (λ terms. terms) result (some_terms names.now text.now) }
     ensures few { IfOk result (λ terms. length terms ≤ MOST_ARGUMENTS) }
 {
     if has_few_parts(text) {
@@ -102,7 +102,7 @@ fn read_few_terms(alloc: Global, names: &Names, text: &[u8]) -> Result<TermList,
 
 /// The arguments of a call: at most 15.
 fn read_terms(alloc: Global, names: &Names, text: &[u8]) -> Result<TermList, LineFault>
-    ensures read { Reads (λ terms. terms) result (terms_reading names.now text.now) }
+    ensures read { ReadsWord (λ terms. terms) result (terms_reading names.now text.now) }
     ensures few { IfOk result (λ terms. length terms ≤ MOST_ARGUMENTS) }
 {
     if text.is_empty() {
@@ -113,7 +113,7 @@ fn read_terms(alloc: Global, names: &Names, text: &[u8]) -> Result<TermList, Lin
 
 /// The arguments in front of a bracket that ends the text.
 fn read_closed(alloc: Global, names: &Names, text: &[u8]) -> Result<TermList, LineFault>
-    ensures read { Reads (λ terms. terms) result (closed_reading names.now text.now) }
+    ensures read { ReadsWord (λ terms. terms) result (closed_reading names.now text.now) }
     ensures few { IfOk result (λ terms. length terms ≤ MOST_ARGUMENTS) }
 {
     let (inside, behind) = cut_at(text, b')').ok_or(LineFault::Form)?;
@@ -153,7 +153,7 @@ fn arguments_part(
     names: &Names,
     text: &[u8],
 ) -> Result<(AtomId, TermList), LineFault>
-    ensures read { Reads (λ part. part) result (arguments_part names.now text.now) }
+    ensures read { ReadsWord (λ part. part) result (arguments_part names.now text.now) }
     ensures few { IfOk result (λ part. length part.1 ≤ MOST_ARGUMENTS) }
 {
     let (name, rest) = cut_at(text, b'(').ok_or(LineFault::Form)?;
@@ -164,7 +164,7 @@ fn arguments_part(
 
 /// A call, as `m:f(1,ok)`.
 pub fn read_call(alloc: Global, names: &Names, text: &[u8]) -> Result<Call, LineFault>
-    ensures { Reads (λ call. call) result (call_reading names.now text.now) }
+    ensures { ReadsWord (λ call. call) result (call_reading names.now text.now) }
 {
     let (module, rest) = cut_at(text, b':').ok_or(LineFault::Form)?;
     let module = atom_of(names, module).ok_or(LineFault::Form)?;

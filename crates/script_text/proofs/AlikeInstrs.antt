@@ -1,23 +1,18 @@
 -- An instruction of a module text is written as one that names the same.
-use Rattle.std.proofs.Common.{◌≡◌, ℕ, ◌+◌, Bool, true, false, cond, not, ◌&&◌, ◌||◌, List, [], ◌∷◌, ◌++◌, map, Option, Some}
+use Rattle.std.proofs.Common.{◌≡◌, ℕ, ◌+◌, Bool, true, false, cond, ◌&&◌, ◌||◌, List, [], ◌∷◌, ◌++◌, map, Option, Some}
 use Rattle.std.proofs.Common.{None, is_some, option_map, unwrap_or, slice_get, bytes_eq, refl, sym, ap, ◌∙◌, add-one}
 use Rattle.script_text.proofs.Common.{and_parts, or_parts, slice_get-map, Texts}
-use Rattle.script_text.proofs.Types.{Term, Int, Atom, Tuple}
-use Rattle.term_core.specs.declared.term.Term.TheVariants.{List as ListOf}
-use Rattle.term_core.specs.Image.{is_immediate}
-use Rattle.script_text.proofs.Texts.{is_atom_text, plain, term_of, is_term_text, is_bracketed, term_atoms}
-use Rattle.script_text.proofs.Texts.{term_in, atom_text, number_in, term_text, position-cons, plain-term_of}
-use Rattle.script_text.proofs.Texts.{is_immediate-term_in, number_value, is_number_text, map_some, some_is, bytes_are, HasNumber}
+use Rattle.script_text.proofs.Texts.{is_atom_text, atom_text, number_in, position-cons, plain-term_of, PlainTerm, WrittenTerm, atoms_of}
+use Rattle.script_text.proofs.Texts.{number_value, is_number_text, map_some, some_is, bytes_are, HasNumber}
 use Rattle.mod_core.specs.declared.code.Function.{Function}
-use Rattle.script_text.proofs.Modules.{written_constant, written_operand, written_call, written_instr}
-use Rattle.script_text.proofs.Modules.{operand_atoms, instr_atoms, is_wide_operand, has_wide_instr, FunctionForm}
-use Rattle.script_text.proofs.Modules.{HeaderForm, is_header, function_number, callee_in}
-use Rattle.script_text.proofs.Modules.{operand_in, instr_in, function_in, is_settled, head_of}
-use Rattle.mod_text.specs.ModuleLine.{OperandForm, register, integer, atom, complex, InstrForm, move, add, sub, eq}
-use Rattle.mod_text.specs.ModuleLine.{less, jump, call, call_ext, ret, pget, pget_or, elem, print, yield, LineForm}
-use Rattle.mod_text.specs.ModuleLine.{is_arity_text, is_operand_form, is_function_form, is_instr_form}
+use Rattle.script_text.proofs.Modules.{written_operand, written_call, written_instr, operand_atoms, instr_atoms, is_wide_operand, has_wide_instr}
+use Rattle.script_text.proofs.Modules.{FunctionForm, HeaderForm, is_header, function_number, callee_in, operand_in, instr_in, function_in}
+use Rattle.script_text.proofs.Modules.{is_settled, head_of}
+use Rattle.mod_text.specs.ModuleLine.{OperandForm, register, constant, InstrForm, move, add, sub, eq, less, jump, call, call_ext, ret, pget, pget_or}
+use Rattle.mod_text.specs.ModuleLine.{elem, print, yield, LineForm, is_arity_text, is_operand_form, is_function_form, is_instr_form}
 use Rattle.script_text.proofs.ModuleNames.{AreHeld, held_first, held_second}
-use Rattle.script_text.proofs.TermLines.{text_again, atom_again, arity_again}
+use Rattle.script_text.proofs.TermLines.{narrow_fits, term_again, atom_again, arity_again}
+use Rattle.script_text.proofs.Forms.{term_form, argument_in}
 use Rattle.script_text.proofs.FunctionNames.{instr_functions}
 
 -- ---- a function that is called
@@ -79,22 +74,10 @@ module _ (names : Texts) where
   no_functions None at = refl
   no_functions (Some f) at = refl
 
-  -- a tuple or a list is written as its text
-  complex_again : (term : Term) (text : List ℕ) → is_immediate (plain term) ≡ false → term_text names term ≡ text → operand_atoms (written_constant names term) ≡ term_atoms text
-  complex_again (Int z) text inner is = absurd cc
-  complex_again (Atom a) text inner is = absurd cc
-  complex_again (Tuple ts) text inner is = ap term_atoms is
-  complex_again (ListOf ts) text inner is = ap term_atoms is
-
   operand_again : (o : OperandForm) → IsGoodOperand names o → operand_atoms (written_operand names (operand_in names o)) ≡ operand_atoms o
   operand_again (register digits) g = refl
-  operand_again (integer text) g = refl
-  operand_again (atom text) g = ap (λ (t : List ℕ). t ∷ []) (atom_again names text g.held.0)
-  operand_again (complex text) g =
-      let parts = and_parts (is_bracketed text) (is_term_text text) g.sound in
-      let bracketed : not (is_bracketed text) ≡ false = ap not parts.0 in
-      let inner = ap is_immediate (plain-term_of (term_in names text)) ∙ is_immediate-term_in names text parts.1 ∙ bracketed in
-      complex_again (term_of (term_in names text)) text inner (text_again names text parts.1 g.narrow g.held)
+  operand_again (constant term) g =
+      ap (λ (t : PlainTerm). atoms_of (term_form names t)) (plain-term_of (argument_in names term)) ∙ ap (λ (t : WrittenTerm). atoms_of t) (term_again names term g.sound (narrow_fits term g.narrow) g.held)
 
   two_good : (a b : OperandForm) (rest : Bool) → (is_operand_form a && (is_operand_form b && rest)) ≡ true → (is_wide_operand a || is_wide_operand b) ≡ false → AreHeld names (operand_atoms a ++ operand_atoms b) → IsGoodOperand names a × IsGoodOperand names b
   two_good a b rest sound narrow held =

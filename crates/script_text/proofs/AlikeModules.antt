@@ -5,14 +5,11 @@ use Rattle.script_text.proofs.Common.{AllByRecursion, flat_map, list_any, and_pa
 use Rattle.script_text.proofs.Texts.{is_atom_text, atom_text, number_in, number_value, HasNumber}
 use Rattle.mod_core.specs.declared.code.Instr.{Instr}
 use Rattle.script_text.proofs.Types.{LineFault}
-use Rattle.script_text.proofs.Modules.{label_text, written_instr, goes_to, labels_at, lines_from, function_lines}
-use Rattle.script_text.proofs.Modules.{canonical, is_open, may_follow, last_line, has_high_register}
-use Rattle.script_text.proofs.Modules.{has_wide_integer, names_after, InstrForm, LineForm, title, header, label}
-use Rattle.script_text.proofs.Modules.{instr, end, is_version_text, is_arity_text, is_line_form, FollowOn}
-use Rattle.script_text.proofs.Modules.{names_behind, FunctionForm, HeaderForm, body_of, functions_in}
-use Rattle.script_text.proofs.Modules.{headers_in, instrs_in, instr_in, function_in, module_of, IsTitled}
-use Rattle.script_text.proofs.Modules.{is_settled_line, unsettled_at, unsettled_below, earlier}
-use Rattle.script_text.proofs.Modules.{first_unsettled, unsettled_line, last_line-push, head_of}
+use Rattle.script_text.proofs.Modules.{label_text, written_instr, goes_to, labels_at, lines_from, function_lines, canonical, is_open, may_follow}
+use Rattle.script_text.proofs.Modules.{last_line, has_high_register, has_wide_integer, names_after, InstrForm, LineForm, title, header, label, instr}
+use Rattle.script_text.proofs.Modules.{end, is_version_text, is_arity_text, is_line_form, FollowOn, names_behind, FunctionForm, HeaderForm, body_of}
+use Rattle.script_text.proofs.Modules.{functions_in, headers_in, instrs_in, instr_in, function_in, module_of, IsTitled, is_settled_line}
+use Rattle.script_text.proofs.Modules.{unsettled_at, unsettled_below, earlier, first_unsettled, unsettled_line, last_line-push, head_of}
 use Rattle.script_text.proofs.ModuleNames.{HaveHeld, held_body}
 use Rattle.script_text.proofs.TermLines.{atom_again, version_again, arity_again}
 use Rattle.script_text.proofs.Alike.{AreAlike, alike_same, alike_back, alike_then, alike_append, alike_label, alike_labels, alike_line}

@@ -2,19 +2,14 @@
 use Rattle.std.proofs.Common.{◌≡◌, ℕ, List, [], ◌∷◌, ◌++◌, map, None, sym, refl, subst, ◌+◌, ◌≤◌, Bool, true, false, cond, length, Option}
 use Rattle.std.proofs.Common.{Some, Result, Ok, Err, ap, ◌∙◌, append_assoc, append-nil, length-append, arith, ◌<◌, nat_le, nat_lt}
 use Rattle.std.specs.Prelude.{All}
-use Rattle.script_text.proofs.Common.{AllByRecursion, flat_map, list_any, All-head, All-tail, All-nil, All-push}
-use Rattle.script_text.proofs.Common.{le-ltb, or_from, map-append, Texts, fold, sum_by, nat_tests}
-use Rattle.script_text.proofs.Common.{sum_by-append, sum_by-cons}
+use Rattle.script_text.proofs.Common.{AllByRecursion, flat_map, list_any, All-head, All-tail, All-nil, All-push, le-ltb, or_from, map-append, Texts}
+use Rattle.script_text.proofs.Common.{fold, sum_by, nat_tests, sum_by-append, sum_by-cons}
 use Rattle.script_text.proofs.Texts.{IsNames, Extends, Extends-refl, number_value, names_with_all, decimal-writes}
-use Rattle.script_text.proofs.Types.{Module, Mfa, ModRef, LineCause, Place, Between, Within}
-use Rattle.script_text.proofs.Types.{Script, ScriptCmd, Observing, Loading, Finished}
-use Rattle.script_text.proofs.Modules.{canonical, IsModuleHeld, IsModule, LineForm, lines_written, title, end}
-use Rattle.script_text.proofs.Modules.{line_written, module_of, unsettled_line, title_of, IsTitled}
-use Rattle.script_text.proofs.Modules.{may_follow, last_line, line_atoms, names_after, has_high_register}
-use Rattle.script_text.proofs.Modules.{has_wide_integer, has_long_term, overfills_names, is_seventeenth}
-use Rattle.script_text.proofs.Modules.{ends_too_long, is_repeated, fault_of_line, counted_name, IsNext}
-use Rattle.script_text.proofs.Modules.{FollowOn, Step, judged, kept, last_line-push, spawns_in, spawn_count}
-use Rattle.script_text.proofs.Modules.{IsScript}
+use Rattle.script_text.proofs.Types.{Module, Mfa, ModRef, LineCause, Place, Between, Within, Script, ScriptCmd, Observing, Loading, Finished}
+use Rattle.script_text.proofs.Modules.{canonical, IsModuleHeld, IsModule, LineForm, lines_written, title, end, line_written, module_of}
+use Rattle.script_text.proofs.Modules.{unsettled_line, title_of, IsTitled, may_follow, last_line, line_atoms, names_after, has_high_register}
+use Rattle.script_text.proofs.Modules.{has_wide_integer, has_long_term, overfills_names, is_seventeenth, ends_too_long, is_repeated, fault_of_line}
+use Rattle.script_text.proofs.Modules.{counted_name, IsNext, FollowOn, Step, judged, kept, last_line-push, spawns_in, spawn_count, IsScript}
 use Rattle.mod_text.proofs.CanonicalLaw.{canonical_is_text}
 use Rattle.script_text.proofs.TextLines.{IsClosed, AreClosed, titled, titled_more, title_of-more, home_stays, title_held, have_held_in}
 use Rattle.script_text.proofs.Alike.{AreAlike, alike_same, alike_append}
@@ -23,21 +18,18 @@ use Rattle.mod_text.specs.Keeping.{RowFrom}
 use Rattle.mod_text.specs.declared.fault.LineFault.TheVariants as line_faults
 use Rattle.mod_text.proofs.CanonicalParts.{IsSound}
 use Rattle.mod_text.proofs.LineNames.{too_long_is}
-use Rattle.script_text.proofs.Forms.{RefForm, ScriptLine, code, code_form, ref_in, ◌>>=◌, is_same_mod_ref}
-use Rattle.script_text.proofs.Forms.{is_among, ref_added, Known, by_code, step_titled, is_text_end, closed_by}
-use Rattle.script_text.proofs.Forms.{text_closed, code_judged, step_at, step, head, observer, loader, load}
-use Rattle.script_text.proofs.Forms.{on_atom, put, trace, spawn, go, onto_last, script_line_atoms}
-use Rattle.script_text.proofs.Forms.{commands_on, or_else, command_line, block_form, observer_form, opening}
-use Rattle.script_text.proofs.Forms.{step_observer, block_step, end_step, spawned_in, processes_with}
-use Rattle.script_text.proofs.Forms.{loads_given, step_named, step_command, step_loading, steps, script_of}
+use Rattle.script_text.proofs.Forms.{RefForm, ScriptLine, code, code_form, ref_in, ◌>>=◌, is_same_mod_ref, is_among, ref_added, Known, by_code}
+use Rattle.script_text.proofs.Forms.{step_titled, is_text_end, closed_by, text_closed, code_judged, step_at, step, head, observer, loader, load}
+use Rattle.script_text.proofs.Forms.{on_atom, put, trace, spawn, go, onto_last, script_line_atoms, commands_on, or_else, command_line, block_form}
+use Rattle.script_text.proofs.Forms.{observer_form, opening, step_observer, block_step, end_step, spawned_in, processes_with, loads_given}
+use Rattle.script_text.proofs.Forms.{step_named, step_command, step_loading, steps, script_of}
 use Rattle.script_text.proofs.Commands.{ref_of, spawned, one_command, same_commands, same_given, processes_run, IsToldBy, Gathered, gathered_of}
 use Rattle.script_text.proofs.Commands.{gathered, Built, Coming, grown, few_now, coming_next, Ran, ran_none, ran_line, ran_append}
 use Rattle.script_text.proofs.FunctionNames.{line_functions, home_after_line, home_of, mfas_on, counted_with}
 use Rattle.script_text.proofs.FunctionNames.{added_few, counted_line, home_after, counted_command}
 use Rattle.script_text.proofs.HeldNames.{Extends-all, held_all, number_in-after}
 use Rattle.script_text.proofs.ModuleNames.{HaveHeld, module_of-more}
-use Rattle.script_text.proofs.StepMoves.{IsJudged, with_title, with_line, IsFront, IsOutside}
-use Rattle.script_text.proofs.StepMoves.{front_outside, IsCommand, with_command, steps-append}
+use Rattle.script_text.proofs.StepMoves.{IsJudged, with_title, with_line, IsFront, IsOutside, front_outside, IsCommand, with_command, steps-append}
 use Rattle.script_text.proofs.Told.{AreApart}
 use Rattle.std.specs.Fmt.{decimal}
 use Rattle.script_text.proofs.KeySets.{onto_last-snoc}

@@ -4,14 +4,13 @@ use Rattle.std.proofs.Common.{inl, inr, refl, sym, ap, ◌∙◌, subst, arith, 
 use Rattle.script_text.proofs.Common.{IsTrue, AllByRecursion, flat_map, list_any, and_from, or_parts}
 use Rattle.script_text.proofs.Common.{false_from_ne_true, cases_lt, nat_tests, flat_map-append, map-append, Texts}
 use Rattle.std.specs.Fmt.{decimal}
-use Rattle.script_text.proofs.Texts.{given_names, names_with_all, Lines, lines_of, is_number_text, number_value}
+use Rattle.script_text.proofs.Texts.{given_names, names_with_all, Lines, lines_of_text, is_number_text, number_value}
 use Rattle.script_text.proofs.Texts.{each_append, lacks, number_lacks, decimal-writes, test_not_lt}
 use Rattle.script_text.proofs.Modules.{IsModuleHeld, IsModule, names_after, LineForm, line_bytes, lines_written, FollowOn, line_lacks}
 use Rattle.script_text.proofs.Types.{Module, Script, ScriptCmd}
 use Rattle.mod_text.specs.Canonical.{canonical as module_lines}
-use Rattle.script_text.proofs.Forms.{ScriptLine, head, code, observer, go, script_line_written, is_script_line}
-use Rattle.script_text.proofs.Forms.{names_of, opening, script_of, IsShort, ScriptText, IsOfSomeText}
-use Rattle.script_text.proofs.Forms.{command_line, block_form, observer_form, code_form, canonical}
+use Rattle.script_text.proofs.Forms.{ScriptLine, head, code, observer, go, script_line_written, is_script_line, counted_names, opening, script_of}
+use Rattle.script_text.proofs.Forms.{IsShort, ScriptText, IsOfSomeText, command_line, block_form, observer_form, code_form, canonical}
 use Rattle.script_text.proofs.Forms.{script_line_bytes, canonical_text, is_long_line, IsTooLongToPrint}
 use Rattle.script_text.proofs.Alike.{Alike, lines_same, lines_then, lines_back, lines_append, AreAlike, alike_back}
 use Rattle.script_text.proofs.CanonicalRuns.{lines_with, IsReady, script_runs, Readings, readings, texts_alike}
@@ -124,14 +123,14 @@ own_alike s r =
     lines_append (head ∷ code_form own) (head ∷ code_form written) rest rest (lines_append (head ∷ []) (head ∷ []) (code_form own) (code_form written) (lines_same (head ∷ [])) like) (lines_same rest)
 
 -- where the canonical lines of a script name its names in order, and few enough functions, its canonical text is a text of it
-pub canonical_law : (s : Script) → IsReady s → names_of (canonical s) ≡ s.names → length (mfas_on s.names [] (functions_named [] (canonical s))) ≤ 1024 → (IsTooLongToPrint s → ⊥) → ScriptText (canonical_text s) s
+pub canonical_law : (s : Script) → IsReady s → counted_names (canonical s) ≡ s.names → length (mfas_on s.names [] (functions_named [] (canonical s))) ≤ 1024 → (IsTooLongToPrint s → ⊥) → ScriptText (canonical_text s) s
 canonical_law s ready named few fits =
     let r = readings s.names s.modules ready.sound.names ready.sound.texts.sound ready.sound.held in
     let forms = lines_with s (flat_map (λ (text : List LineForm). text) r.texts) in
     let like = own_alike s r in
     let run = script_runs s ready r (record { names_are = ap (names_with_all given_names) like.atoms ∙ named; few = subst (λ fs. length (mfas_on s.names [] fs) ≤ 1024) (sym (like.functions [])) few }) in
     let good = all_good s ready r in
-    let cut = ap lines_of (bytes_are s r) ∙ lines_of_bytes forms (all_lack forms good) in
+    let cut = ap lines_of_text (bytes_are s r) ∙ lines_of_bytes forms (all_lack forms good) in
     let none_long = false_from_ne_true (list_any is_long_line (map script_line_written forms)) (λ long. fits (inr (ap (λ (w : Lines). list_any is_long_line w.ended) cut ∙ long))) in
     record {
       lines = forms;

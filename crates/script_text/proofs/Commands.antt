@@ -1,32 +1,27 @@
 -- The line of a command, under names that hold its atoms: the command that it says can be made, and is written as that line.
 use Rattle.std.proofs.Common.{◌≡◌, ℕ, ◌+◌, ◌<◌, ◌≤◌, ◌==◌, ◌&&◌, ◌||◌, Bool, true, false, cond, nat_le, List, [], ◌∷◌, map}
 use Rattle.std.proofs.Common.{length, Some, is_some, Result, Ok, Err, refl, sym, ap, ◌∙◌, subst, arith, Option, None, ◌++◌}
-use Rattle.script_text.proofs.Common.{IsTrue, AllByRecursion, flat_map, list_all, list_any, and_parts, or_parts}
-use Rattle.script_text.proofs.Common.{Decides-eqb, nat_tests, length-map, slice_get_within, Texts}
-use Rattle.script_text.proofs.Common.{sum_by}
+use Rattle.script_text.proofs.Common.{IsTrue, AllByRecursion, flat_map, list_all, list_any, and_parts, or_parts, Decides-eqb, nat_tests, length-map}
+use Rattle.script_text.proofs.Common.{slice_get_within, Texts, sum_by}
 use Rattle.script_text.proofs.Types.{AtomId, Module, ModRef, ScriptCmd, Load, Put, Trace, Spawn, LineCause, Place}
-use Rattle.script_text.proofs.Texts.{Extends, is_atom_text, term_of, TermOf, RowOf, integer_leaf, atom_leaf}
-use Rattle.script_text.proofs.Texts.{tuple_of, list_of, no_terms, term_then, EachLeaf, EachInRow, map_row}
-use Rattle.script_text.proofs.Texts.{atoms_of, row_atoms, term_words, number_in, is_number_text, number_value}
-use Rattle.script_text.proofs.Texts.{WrittenTerm, IsTermInteger, IntegersFit, integer_of, HasNumber}
-use Rattle.script_text.proofs.Texts.{slice_get-number_of, plain-term_of, lacks, test_not_lt}
-use Rattle.script_text.proofs.Texts.{IsNames, names_with, names_with_all, names_with-IsNames}
+use Rattle.script_text.proofs.Texts.{Extends, is_atom_text, term_of, TermOf, RowOf, integer_leaf, atom_leaf, tuple_of, list_of, no_terms, term_then}
+use Rattle.script_text.proofs.Texts.{EachLeaf, EachInRow, map_row, atoms_of, row_atoms, term_words, number_in, is_number_text, number_value}
+use Rattle.script_text.proofs.Texts.{WrittenTerm, IsTermInteger, IntegersFit, integer_of, HasNumber, slice_get-number_of, plain-term_of, lacks}
+use Rattle.script_text.proofs.Texts.{test_not_lt, IsNames, names_with, names_with_all, names_with-IsNames}
 use Rattle.term_core.proofs.LeafFacts.{term_words-map}
-use Rattle.script_text.proofs.Modules.{is_version_text, is_arity_text, is_function_form, atom_in, IsTermOf}
-use Rattle.script_text.proofs.Modules.{IsCmdOf, spawns_in, last_line, unsettled_line, are_atoms, both_atoms}
-use Rattle.script_text.proofs.Modules.{line_atoms_are, names_with_all-append, more_names_all, spawn_count}
+use Rattle.script_text.proofs.Modules.{is_version_text, is_arity_text, is_function_form, atom_in, IsTermOf, IsCmdOf, spawns_in, last_line}
+use Rattle.script_text.proofs.Modules.{unsettled_line, are_atoms, both_atoms, line_atoms_are, names_with_all-append, more_names_all, spawn_count}
 use Rattle.server_core.specs.CommandTable.{text_of}
-use Rattle.script_text.proofs.Forms.{RefForm, AtomCommand, delete, ScriptLine, load, on_atom, put, trace, spawn}
-use Rattle.script_text.proofs.Forms.{go, script_line_written, is_ref_form, is_term_form, is_script_line}
-use Rattle.script_text.proofs.Forms.{script_line_atoms, is_wide, is_long, is_wide_term, is_long_term, ref_in}
-use Rattle.script_text.proofs.Forms.{argument_in, command_of, commands_on, ref_form, argument_form}
-use Rattle.script_text.proofs.Forms.{command_line, is_same_mod_ref, is_among, loads_given, processes_with}
-use Rattle.script_text.proofs.Forms.{code, Known, is_text_end, closed_by, step, steps, ◌>>=◌}
+use Rattle.script_text.proofs.Forms.{RefForm, AtomCommand, delete, ScriptLine, load, on_atom, put, trace, spawn, go, script_line_written}
+use Rattle.script_text.proofs.Forms.{is_ref_form, is_term_form, is_script_line, script_line_atoms, is_wide, is_long, is_wide_term, is_long_term}
+use Rattle.script_text.proofs.Forms.{ref_in, argument_in, command_of, commands_on, ref_form, term_form, command_line, is_same_mod_ref, is_among}
+use Rattle.script_text.proofs.Forms.{loads_given, processes_with, code, Known, is_text_end, closed_by, step, steps, ◌>>=◌}
 use Rattle.script_text.proofs.StepMoves.{ok_is, IsCommand, with_line, Move, writes, moves, AreSound, bind_ok, steps-append}
 use Rattle.script_text.proofs.HeldNames.{number_is, number_in-after, Extends-all}
 use Rattle.script_text.proofs.ModuleNames.{AreHeld, held_first, held_second}
 use Rattle.script_text.proofs.TermLines.{each_first, term_after, terms_after, narrow_fits, term_again, atom_again}
-use Rattle.script_text.proofs.TermLines.{version_again, arity_again, term_atoms_are, terms_atoms_are}
+use Rattle.script_text.proofs.Modules.{term_atoms_are}
+use Rattle.script_text.proofs.TermLines.{version_again, arity_again, terms_atoms_are}
 use Rattle.script_text.proofs.StepKept.{IsKept, kept_by}
 use Rattle.script_text.proofs.FunctionNames.{script_line_functions, home_after, home_of, home_of-append}
 use Rattle.script_text.proofs.FunctionNames.{functions_named, mfas_on, mfas_on-append, mfas_more, mfa_named}
@@ -184,7 +179,7 @@ module _ (names : Texts) where
       let more = refs_again refs p.1 held.1 in
       λ k. record { name = n k; version = v k } ∷ more k
 
-  arguments_again : (args : List WrittenTerm) → list_all is_term_form args ≡ true → list_any is_wide_term args ≡ false → AllByRecursion (λ arg. AreHeld names (atoms_of arg)) args → map (argument_form names) (map (argument_in names) args) ≡ args
+  arguments_again : (args : List WrittenTerm) → list_all is_term_form args ≡ true → list_any is_wide_term args ≡ false → AllByRecursion (λ arg. AreHeld names (atoms_of arg)) args → map (term_form names) (map (argument_in names) args) ≡ args
   arguments_again [] form narrow held = refl
   arguments_again (arg ∷ args) form narrow held =
       let f = and_parts (is_term_form arg) (list_all is_term_form args) form in
@@ -203,7 +198,7 @@ module _ (names : Texts) where
   line_back texts (put key term) is l =
       let p = atom_again names key l.held.0 in
       let form = (and_parts (is_atom_text key) (is_term_form term) l.sound).1 in
-      let t = ap (argument_form names) (plain-term_of (argument_in names term)) ∙ term_again names term form (narrow_fits term l.narrow) l.held.1 in
+      let t = ap (term_form names) (plain-term_of (argument_in names term)) ∙ term_again names term form (narrow_fits term l.narrow) l.held.1 in
       λ k. put (p k) (t k) ∷ []
   line_back texts (trace f g arity on) is l =
       let p = atom_again names f l.held.0 in

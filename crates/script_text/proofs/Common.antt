@@ -1,10 +1,9 @@
 -- Equality, truth, lists and steps, as lemmas name them.
 pub use Rattle.mod_text.proofs.Common.{Texts}
-pub use Rattle.std.proofs.Common.{◌≡◌, ℕ, Bool, true, false, cond, List, [], ◌∷◌, ◌++◌, refl, sym, ap, ◌∙◌}
-pub use Rattle.std.proofs.Common.{subst, append-nil, arith, ◌<◌, ◌&&◌, ◌==◌, nat_le, length, Some, None}
-pub use Rattle.std.proofs.Common.{codes, length-append, Option, is_some, unwrap_or, bytes_eq, ◌||◌, ◌≤◌, not}
-pub use Rattle.std.proofs.Common.{Ok, Result, Err, OnOk, nat_lt, option_map, ◌+◌, get_or, drop}
-pub use Rattle.std.proofs.Common.{append_assoc, add-one, drop-cons, decimal, pos, is_none, All, take}
+pub use Rattle.std.proofs.Common.{◌≡◌, ℕ, Bool, true, false, cond, List, [], ◌∷◌, ◌++◌, refl, sym, ap, ◌∙◌, subst, append-nil, arith, ◌<◌, ◌&&◌}
+pub use Rattle.std.proofs.Common.{◌==◌, nat_le, length, Some, None, codes, length-append, Option, is_some, unwrap_or, bytes_eq, ◌||◌, ◌≤◌, not, Ok}
+pub use Rattle.std.proofs.Common.{Result, Err, OnOk, nat_lt, option_map, ◌+◌, get_or, drop, append_assoc, add-one, drop-cons, decimal, pos, is_none}
+pub use Rattle.std.proofs.Common.{All, take}
 pub use Rattle.std.proofs.lemmas.Bool.{and_parts, or_parts, le-ltb, and_from, false_from_ne_true, cases_lt, or_from, lt-ltb}
 pub use Rattle.std.proofs.lemmas.Bool.Decides.{nat_tests, Decides-eqb}
 pub use Rattle.std.proofs.lemmas.Grind.{flat_map-append, common_steps}

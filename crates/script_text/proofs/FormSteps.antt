@@ -3,11 +3,9 @@ use Rattle.std.proofs.Common.{◌≡◌, ℕ, suc, ◌+◌, ◌<◌, ◌≤◌, 
 use Rattle.std.proofs.Common.{Ok, Err, subst, arith, length-append, nat_le, ◌++◌, Result, bytes_eq, codes, refl, sym, ap, ◌∙◌}
 use Rattle.script_text.proofs.Common.{Texts}
 use Rattle.script_text.proofs.Types.{LineFault, LineCause, Place, Unread, Between, Within, Observing, ScriptReader}
-use Rattle.script_text.proofs.Modules.{LineForm, header, label, instr, title, last_line, may_follow, fault_of_line}
-use Rattle.script_text.proofs.Modules.{names_after, counted_name, counted_by, line_reading, HeaderForm}
-use Rattle.script_text.proofs.Modules.{IsTitled, headers_in, body_of, earlier, is_settled_line, unsettled_at}
-use Rattle.script_text.proofs.Modules.{unsettled_below, first_unsettled, unsettled_line, kept, judged}
-use Rattle.script_text.proofs.Modules.{line_step, Step, line_is, text_again}
+use Rattle.script_text.proofs.Modules.{LineForm, header, label, instr, title, last_line, may_follow, fault_of_line, names_after, counted_name}
+use Rattle.script_text.proofs.Modules.{counted_by, line_reading, HeaderForm, IsTitled, headers_in, body_of, earlier, is_settled_line, unsettled_at}
+use Rattle.script_text.proofs.Modules.{unsettled_below, first_unsettled, unsettled_line, kept, judged, line_step, Step, line_is, text_again}
 use Rattle.script_text.proofs.TextLines.{titled_more}
 use Rattle.script_text.proofs.StepMoves.{ok_is}
 use Rattle.script_text.proofs.Texts.{number_of, number_in, cut_at, number_value, cut_is, cut_here, some_is, guarded, bytes_are}

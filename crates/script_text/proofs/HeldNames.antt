@@ -1,9 +1,8 @@
 -- Texts that a table of names holds: each keeps its number as the table grows, and no two have one number.
 use Rattle.script_text.proofs.Common.{◌≡◌, ℕ, cond, List, [], ◌∷◌, ◌++◌, length, Option, Some, None, is_some}
 use Rattle.script_text.proofs.Common.{unwrap_or, bytes_eq, refl, sym, ap, ◌∙◌, subst, AllByRecursion, Texts}
-use Rattle.script_text.proofs.Texts.{Extends, number_of, names_with, number_in, names_with_all}
-use Rattle.script_text.proofs.Texts.{position-append_found, position-append_one, Extends-refl, Extends-trans}
-use Rattle.script_text.proofs.Texts.{names_with-Extends, same_bytes, HasNumber}
+use Rattle.script_text.proofs.Texts.{Extends, number_of, names_with, number_in, names_with_all, position-append_found, position-append_one}
+use Rattle.script_text.proofs.Texts.{Extends-refl, Extends-trans, names_with-Extends, same_bytes, HasNumber}
 
 pub held_more : (names more : Texts) (text : List ℕ) → HasNumber names text → HasNumber (names ++ more) text
 held_more names more text h = record { number = h.number; is = position-append_found (bytes_eq text) names more h.number h.is }

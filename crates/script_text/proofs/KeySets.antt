@@ -1,7 +1,6 @@
 -- Sets of keys and lists of groups that grow at their end, seen as lists.
-use Rattle.script_text.proofs.Common.{◌≡◌, ℕ, ◌==◌, ◌&&◌, ◌||◌, ◌≤◌, not, nat_le, Bool, true, false, cond, List}
-use Rattle.script_text.proofs.Common.{[], ◌∷◌, ◌++◌, length, Ok, refl, sym, ap, ◌∙◌, arith, Result, Err}
-use Rattle.script_text.proofs.Common.{OnOk, map, list_any, nat_tests, map-append, length-map}
+use Rattle.script_text.proofs.Common.{◌≡◌, ℕ, ◌==◌, ◌&&◌, ◌||◌, ◌≤◌, not, nat_le, Bool, true, false, cond, List, [], ◌∷◌, ◌++◌, length, Ok, refl}
+use Rattle.script_text.proofs.Common.{sym, ap, ◌∙◌, arith, Result, Err, OnOk, map, list_any, nat_tests, map-append, length-map}
 use Rattle.script_text.proofs.Types.{Mfa, ModRef}
 use Rattle.server_core.specs.Generations.{is_same_name}
 use Rattle.script_text.proofs.Texts.{failed}

@@ -1,19 +1,15 @@
 -- What a line's text leaves is what its form leaves; a text of no form is refused.
-use Rattle.script_text.proofs.Common.{◌≡◌, ℕ, ◌≤◌, Bool, true, false, cond, not, nat_lt, nat_le, List, [], ◌∷◌}
-use Rattle.script_text.proofs.Common.{length, Option, Some, None, option_map, Result, Ok, Err, bytes_eq}
-use Rattle.script_text.proofs.Common.{Texts, codes, refl, sym, ap, ◌∙◌, map, list_all, list_any, and_parts}
+use Rattle.script_text.proofs.Common.{◌≡◌, ℕ, ◌≤◌, Bool, true, false, cond, not, nat_lt, nat_le, List, [], ◌∷◌, length, Option, Some, None}
+use Rattle.script_text.proofs.Common.{option_map, Result, Ok, Err, bytes_eq, Texts, codes, refl, sym, ap, ◌∙◌, map, list_all, list_any, and_parts}
 use Rattle.script_text.proofs.Types.{Mfa, ModRef, ScriptCmd, Load, Put, Trace, Spawn, LineCause, Place}
 use Rattle.script_text.proofs.Types.{Loading, Unread, Between, Within, Observing, Finished, ScriptReader}
 use Rattle.script_text.proofs.Texts.{is_atom_text, term_of, number_in, names_with_all, cut_at, bytes_are}
 use Rattle.script_text.proofs.Modules.{LineForm, is_arity_text, is_function_form, line_reading}
-use Rattle.script_text.proofs.Forms.{RefForm, AtomCommand, ScriptLine, code, observer, load, on_atom, is_ref_form}
-use Rattle.script_text.proofs.Forms.{is_term_form, is_snapshots_text, loader, go, onto_last, ref_in}
-use Rattle.script_text.proofs.Forms.{argument_in, command_of, or_else, is_wide_term, is_long_term, refs_reading}
-use Rattle.script_text.proofs.Forms.{command_reading, PutForm, put_reading, TraceForm, trace_reading}
-use Rattle.script_text.proofs.Forms.{CallForm, call_reading, or_syntax, atom_named, refs_named, put_named}
-use Rattle.script_text.proofs.Forms.{trace_named, call_named, ref_words, put_words, trace_words, call_words}
-use Rattle.script_text.proofs.Forms.{◌>>=◌, is_among, mfa_added, process_added, names_added}
-use Rattle.script_text.proofs.Forms.{step_named, block_step, end_step, step_at, step}
+use Rattle.script_text.proofs.Forms.{RefForm, AtomCommand, ScriptLine, code, observer, load, on_atom, is_ref_form, is_term_form, is_snapshots_text}
+use Rattle.script_text.proofs.Forms.{loader, go, onto_last, ref_in, argument_in, command_of, or_else, is_wide_term, is_long_term, refs_reading}
+use Rattle.script_text.proofs.Forms.{command_reading, PutForm, put_reading, TraceForm, trace_reading, CallForm, call_reading, or_syntax, atom_named}
+use Rattle.script_text.proofs.Forms.{refs_named, put_named, trace_named, call_named, ref_words, put_words, trace_words, call_words, ◌>>=◌, is_among}
+use Rattle.script_text.proofs.Forms.{mfa_added, process_added, names_added, step_named, block_step, end_step, step_at, step}
 use Rattle.script_text.specs.Reading.{with_command, noted, load_step, atom_step, put_step, trace_step}
 use Rattle.script_text.specs.Reading.{spawn_step, command_by, command_step, keyed_step, other_step, line_at}
 use Rattle.script_text.specs.declared.fault.Which.TheVariants as which

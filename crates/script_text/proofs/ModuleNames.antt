@@ -1,16 +1,15 @@
 -- The module of lines whose atoms are held stays the same as the table of names grows.
 use Rattle.script_text.proofs.Common.{◌≡◌, ℕ, List, [], ◌∷◌, ◌++◌, refl, ap, map, AllByRecursion, Texts}
-use Rattle.script_text.proofs.Types.{AtomId, Atom}
+use Rattle.script_text.proofs.Types.{AtomId}
 use Rattle.script_text.proofs.Texts.{term_of, number_value, HasNumber}
 use Rattle.mod_core.specs.declared.code.Operand.TheVariants.{Const}
 use Rattle.mod_core.specs.declared.code.Instr.TheVariants.{Move, Add, Sub, Eq, Less, CallExt, Ret, Pget, PgetOr, Elem, Print}
-use Rattle.script_text.proofs.Modules.{OperandForm, register, integer, atom, complex, InstrForm, move, add, sub}
-use Rattle.script_text.proofs.Modules.{eq, less, call_ext, ret, pget, pget_or, elem, print, LineForm}
-use Rattle.script_text.proofs.Modules.{title, header, label, instr, operand_atoms, instr_atoms, line_atoms}
-use Rattle.script_text.proofs.Modules.{body_of, functions_in, HeaderForm, headers_in, instrs_in, atom_in}
-use Rattle.script_text.proofs.Modules.{operand_in, target_in, instr_in, function_in, title_of, IsTitled, module_of}
+use Rattle.script_text.proofs.Modules.{OperandForm, register, constant, InstrForm, move, add, sub, eq, less, call_ext, ret, pget, pget_or, elem}
+use Rattle.script_text.proofs.Modules.{print, LineForm, title, header, label, instr, operand_atoms, instr_atoms, line_atoms, body_of, functions_in}
+use Rattle.script_text.proofs.Modules.{HeaderForm, headers_in, instrs_in, atom_in, operand_in, target_in, instr_in, function_in, title_of, IsTitled}
+use Rattle.script_text.proofs.Modules.{module_of}
 use Rattle.script_text.proofs.HeldNames.{number_in-more}
-use Rattle.script_text.proofs.TermLines.{term_in-more}
+use Rattle.script_text.proofs.TermLines.{term_after}
 
 -- each text is held
 abbrev pub AreHeld : Texts → Texts → Type 0
@@ -34,9 +33,7 @@ module _ (names : Texts) where
 
   same_operand : (more : Texts) (o : OperandForm) → AreHeld names (operand_atoms o) → operand_in (names ++ more) o ≡ operand_in names o
   same_operand more (register digits) h = refl
-  same_operand more (integer text) h = refl
-  same_operand more (atom text) h = λ i. Const (Atom (same_atom more text h.0 i))
-  same_operand more (complex text) h = λ i. Const (term_of (term_in-more names more text h i))
+  same_operand more (constant term) h = λ i. Const (term_of (term_after names (names ++ more) term (record { more = more; whole = refl }) h i))
 
   two_same : (more : Texts) (a b : OperandForm) → AreHeld names (operand_atoms a ++ operand_atoms b) → (operand_in (names ++ more) a ≡ operand_in names a) × (operand_in (names ++ more) b ≡ operand_in names b)
   two_same more a b h =

@@ -1,7 +1,6 @@
 -- The loops that name the parts of a line: what was named, in front of what is still to be named, is the whole.
-use Rattle.script_text.proofs.Common.{◌≡◌, ℕ, ◌+◌, ◌<◌, ◌≤◌, List, [], ◌∷◌, ◌++◌, length, get_or, drop, Result, Ok}
-use Rattle.script_text.proofs.Common.{Err, refl, sym, ap, ◌∙◌, append_assoc, append-nil, add-one, Texts}
-use Rattle.script_text.proofs.Common.{drop-cons, map, drop_all}
+use Rattle.script_text.proofs.Common.{◌≡◌, ℕ, ◌+◌, ◌<◌, ◌≤◌, List, [], ◌∷◌, ◌++◌, length, get_or, drop, Result, Ok, Err, refl, sym, ap, ◌∙◌}
+use Rattle.script_text.proofs.Common.{append_assoc, append-nil, add-one, Texts, drop-cons, map, drop_all}
 use Rattle.script_text.proofs.Types.{LineCause}
 use Rattle.script_text.proofs.Forms.{◌>>=◌, Fails}
 use Rattle.script_text.specs.Naming.{each_named}

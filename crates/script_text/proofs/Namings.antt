@@ -1,8 +1,7 @@
 -- The names of a line, one after another: all get their numbers where the table has room for all of them.
-use Rattle.script_text.proofs.Common.{◌≡◌, ℕ, ◌≤◌, Bool, true, false, cond, not, ◌&&◌, ◌||◌, nat_lt, List, [], ◌∷◌}
-use Rattle.script_text.proofs.Common.{length, Some, None, is_some, Result, Ok, Err, refl, sym, ap, Texts}
-use Rattle.script_text.proofs.Common.{◌∙◌, arith, map, list_all, list_any, flat_map, and_parts}
-use Rattle.script_text.proofs.Common.{and_from, or_parts, le-ltb, nat_tests, length-map}
+use Rattle.script_text.proofs.Common.{◌≡◌, ℕ, ◌≤◌, Bool, true, false, cond, not, ◌&&◌, ◌||◌, nat_lt, List, [], ◌∷◌, length, Some, None, is_some}
+use Rattle.script_text.proofs.Common.{Result, Ok, Err, refl, sym, ap, Texts, ◌∙◌, arith, map, list_all, list_any, flat_map, and_parts, and_from}
+use Rattle.script_text.proofs.Common.{or_parts, le-ltb, nat_tests, length-map}
 use Rattle.std.proofs.lemmas.List.Concat.{flat_map_single}
 use Rattle.script_text.proofs.Types.{Mfa, ModRef, LineCause}
 use Rattle.script_text.proofs.Texts.{Extends, is_atom_text, names_with, PlainTerm, integer_leaf, atom_leaf}
@@ -13,11 +12,12 @@ use Rattle.script_text.proofs.Forms.{RefForm, is_ref_form, is_term_form, PutForm
 use Rattle.script_text.proofs.Forms.{argument_in, is_wide_term, is_long_term, ref_words, trace_words}
 use Rattle.script_text.proofs.Forms.{ArgumentWords, integer, complex, argument_words, put_words, call_words, ◌>>=◌}
 use Rattle.script_text.specs.Naming.{atom_named, each_named, ref_named, refs_named, trace_named, argument_named}
-use Rattle.script_text.specs.Naming.{arguments_named, is_wide_word, is_long_word, key_named, put_named, target_named, call_named}
+use Rattle.script_text.specs.Naming.{arguments_named, is_wide_word, is_long_word, key_with_term, put_named, target_named, call_named}
 use Rattle.script_text.specs.declared.fault.Which.TheVariants as which
 use Rattle.script_text.specs.declared.reading.cause.LineCause.TheVariants as causes
 use Rattle.script_text.proofs.HeldNames.{held_with, held_all, Extends-all, number_in-after}
-use Rattle.script_text.proofs.TermLines.{text_of_form, term_after}
+use Rattle.script_text.proofs.Modules.{text_of_form}
+use Rattle.script_text.proofs.TermLines.{term_after}
 
 -- what comes of names, if they are not too many
 abbrev pub or_limit : {Y : Type 0} → Texts → Result Y LineCause → Result Y LineCause
@@ -278,8 +278,8 @@ with_value key term = Ok (key, term.0, term.1)
 abbrev with_key : ArgumentWords → Numbered → Result Keyed LineCause
 with_key term key = argument_named key.1 term >>= with_value key.0
 
-key_named-is : (names : Texts) (p : PutForm) → is_atom_text p.key ≡ true → is_narrow p.term ≡ true → key_named names (put_words p) ≡ put_or_full (names_after_put names p) p
-unfolding key_named
+key_named-is : (names : Texts) (p : PutForm) → is_atom_text p.key ≡ true → is_narrow p.term ≡ true → key_with_term names (put_words p) ≡ put_or_full (names_after_put names p) p
+unfolding key_with_term
 key_named-is names p key_is narrow =
     let one = names_with names p.key in
     let after = names_with_all one (atoms_of p.term) in
@@ -296,11 +296,11 @@ pub put_named-is : (names : Texts) (p : PutForm) → is_atom_text p.key ≡ true
 put_named-is names p key_is form =
     let wide = sym (wide_word p.term form) in
     let long = sym (long_word p.term form) in
-    (λ i. cond (wide i) (Err (causes.Limit which.Integer)) (cond (long i) (Err (causes.Limit which.Term)) (key_named names (put_words p))))
+    (λ i. cond (wide i) (Err (causes.Limit which.Integer)) (cond (long i) (Err (causes.Limit which.Term)) (key_with_term names (put_words p))))
     ∙ by_wide (is_wide_term p.term) refl
   where
     by_wide : (t : Bool) → is_wide_term p.term ≡ t →
-        cond t (Err (causes.Limit which.Integer)) (cond (is_long_term p.term) (Err (causes.Limit which.Term)) (key_named names (put_words p)))
+        cond t (Err (causes.Limit which.Integer)) (cond (is_long_term p.term) (Err (causes.Limit which.Term)) (key_with_term names (put_words p)))
         ≡ cond t (Err (causes.Limit which.Integer)) (cond (is_long_term p.term) (Err (causes.Limit which.Term)) (put_or_full (names_after_put names p) p))
     by_wide true e = refl
     by_wide false e = ap (cond (is_long_term p.term) (Err (causes.Limit which.Term))) (key_named-is names p key_is (and_from (is_term_form p.term) (not (is_wide_term p.term)) form (ap not e)))

@@ -1,35 +1,30 @@
 -- The readers of the words of a script's lines; a text is that of one line of a script at most.
-use Rattle.script_text.proofs.Common.{◌≡◌, true, List, [], ◌∷◌, refl, ap, ◌∙◌, arith, ℕ, ◌<◌, Bool, false, cond}
-use Rattle.script_text.proofs.Common.{◌&&◌, ◌==◌, nat_le, ◌++◌, length, Some, None, codes, sym, subst}
-use Rattle.script_text.proofs.Common.{length-append, map, list_all, join_with_byte, AllByRecursion, and_parts}
+use Rattle.script_text.proofs.Common.{◌≡◌, true, List, [], ◌∷◌, refl, ap, ◌∙◌, arith, ℕ, ◌<◌, Bool, false, cond, ◌&&◌, ◌==◌, nat_le, ◌++◌, length}
+use Rattle.script_text.proofs.Common.{Some, None, codes, sym, subst, length-append, map, list_all, join_with_byte, AllByRecursion, and_parts}
 use Rattle.script_text.proofs.Common.{and_from, nat_tests, Option, option_map, Result, Ok, bytes_eq}
-use Rattle.script_text.proofs.Texts.{tuple_of, row_of, parts_of_terms, joined, WrittenTerm, written}
-use Rattle.script_text.proofs.Texts.{parted, behind, is_atom_text, is_term_byte, is_term_text-form}
-use Rattle.script_text.proofs.Texts.{nonempty-is_term_text, ◌>>=◌, tested, each_reading, some, some_is}
-use Rattle.script_text.proofs.Texts.{bind_some, bind_at, guard_some, passed, failed, lacks, bytes_are}
-use Rattle.script_text.proofs.Texts.{lacks-append, lacks-cons, cut_here, cut_is, atom_lacks}
+use Rattle.script_text.proofs.Texts.{tuple_of, row_of, parts_of_terms, joined, WrittenTerm, written, parted, behind, is_atom_text, is_term_byte}
+use Rattle.script_text.proofs.Texts.{is_term_text-form, nonempty-is_term_text, ◌>>=◌, text_tested, each_reading, some, some_is, bind_some, bind_at}
+use Rattle.script_text.proofs.Texts.{guard_some, passed, failed, lacks, bytes_are, lacks-append, lacks-cons, cut_here, cut_is, atom_lacks}
 use Rattle.script_text.proofs.Texts.{number_lacks, nothing, cut_at, switch_is, switch_again, map_some}
 use Rattle.term_core.proofs.PartedTerms.{parts_of_parted, joined_parts_of_terms, joined_written}
 use Rattle.term_core.proofs.TokenLaws.{terms_of-row_of}
 use Rattle.term_core.proofs.Text.Items.{IsItem, each_again, each_is, join-flat, all_pass, pass_all}
 use Rattle.term_core.specs.Text.Words.{switch_word, switch_reading}
-use Rattle.script_text.proofs.Modules.{is_version_text, is_arity_text, is_function_form, spaced, LineForm}
-use Rattle.script_text.proofs.Modules.{parts_reading, line_split, has_sound_terms, sound_reading, line_reading}
-use Rattle.script_text.proofs.Modules.{text_again, line_is}
+use Rattle.script_text.proofs.Modules.{is_version_text, is_arity_text, is_function_form, spaced, LineForm, parts_reading, line_split}
+use Rattle.script_text.proofs.Modules.{has_sound_terms, sound_reading, line_reading, text_again, line_is}
 use Rattle.mod_text.proofs.LineReaders.{IsApart, space_apart, version_number, name, function, titled, external_lacks}
 use Rattle.mod_text.proofs.Readers.{Reader, fitting, pair, made, row, passing}
 use Rattle.script_text.proofs.Types.{LineCause}
 use Rattle.script_text.specs.Causes.{◌>>=◌ as ◌>>!◌}
-use Rattle.script_text.proofs.Forms.{is_term_form, is_row_form, RefForm, load, put, trace, spawn}
-use Rattle.script_text.proofs.Forms.{ref_written, call_written, trace_written, is_ref_form, is_script_line}
-use Rattle.script_text.proofs.Forms.{script_line_written, arguments_reading, CallForm, closed_arguments}
-use Rattle.script_text.proofs.Forms.{argument_reading, PutForm, put_reading, PutWords, put_words, TraceForm}
-use Rattle.script_text.proofs.Forms.{Fails, or_syntax, AtomCommand, delete, soft_purge, purge, check_old, erase}
-use Rattle.script_text.proofs.Forms.{command_word, command_reading, ScriptLine, head, code, observer}
-use Rattle.script_text.proofs.Forms.{loader, on_atom, go, is_snapshots_text, IsLine, refs_reading, trace_reading, call_reading}
+use Rattle.script_text.proofs.Forms.{is_term_form, is_row_form, RefForm, load, put, trace, spawn, ref_written, call_written, trace_written}
+use Rattle.script_text.proofs.Forms.{is_ref_form, is_script_line, script_line_written, arguments_reading, CallForm, closed_arguments}
+use Rattle.script_text.proofs.Forms.{argument_reading, PutForm, put_reading, PutWords, put_words, TraceForm, Fails, or_syntax, AtomCommand, delete}
+use Rattle.script_text.proofs.Forms.{soft_purge, purge, check_old, erase, command_word, command_reading, ScriptLine, head, code, observer, loader}
+use Rattle.script_text.proofs.Forms.{on_atom, go, is_snapshots_text, IsLine, refs_reading, trace_reading, call_reading}
 use Rattle.script_text.specs.KeptTerm.{ArgumentWords, argument_words}
 use Rattle.script_text.specs.declared.reading.cause.LineCause.TheVariants as causes
-use Rattle.script_text.proofs.TermLines.{leaf_texts, text_of_form, term_lacks, IsTermForm, argument, argument_again, argument_is}
+use Rattle.script_text.proofs.Modules.{leaf_texts, text_of_form, term_lacks}
+use Rattle.script_text.proofs.TermLines.{IsTermForm, argument, argument_again, argument_is}
 
 row_form : (ts : List WrittenTerm) → list_all is_term_form ts ≡ true → is_row_form (row_of ts) ≡ true
 row_form [] h = refl
@@ -204,11 +199,11 @@ words_of key None = refl
 words_of key (Some t) = refl
 
 -- behind the key a put is read as its term is
-pub put_at : (text front rest key : List ℕ) → cut_at 32 text ≡ Some (front, rest) → tested is_atom_text front ≡ Some key → or_syntax (option_map put_words (put_reading text)) ≡ (or_syntax (option_map argument_words (argument_reading rest)) >>! with_key key)
+pub put_at : (text front rest key : List ℕ) → cut_at 32 text ≡ Some (front, rest) → text_tested is_atom_text front ≡ Some key → or_syntax (option_map put_words (put_reading text)) ≡ (or_syntax (option_map argument_words (argument_reading rest)) >>! with_key key)
 put_at text front rest key cut named =
     ap (λ o. or_syntax (option_map put_words (o >>= put_made)))
-    (bind_at (cut_at 32 text) (λ x. tested is_atom_text x.0 >>= λ k. argument_reading x.1 >>= λ t. Some (k, t)) (front, rest) _ cut
-    (bind_at (tested is_atom_text front) (λ k. argument_reading rest >>= λ t. Some (k, t)) key _ named refl))
+    (bind_at (cut_at 32 text) (λ x. text_tested is_atom_text x.0 >>= λ k. argument_reading x.1 >>= λ t. Some (k, t)) (front, rest) _ cut
+    (bind_at (text_tested is_atom_text front) (λ k. argument_reading rest >>= λ t. Some (k, t)) key _ named refl))
     ∙ words_of key (argument_reading rest)
 
 -- a step that is refused refuses what comes behind it
@@ -216,7 +211,7 @@ pub fails_on : {A B : Type 0} (r : Result A LineCause) (f : A → Result B LineC
 fails_on r f causes.NoMemory h = tt
 fails_on r f cause h = ap (λ x. x >>! f) h
 
-pub put_stops : (text front rest key : List ℕ) (cause : LineCause) → cut_at 32 text ≡ Some (front, rest) → tested is_atom_text front ≡ Some key → Fails (or_syntax (option_map argument_words (argument_reading rest))) cause → Fails (or_syntax (option_map put_words (put_reading text))) cause
+pub put_stops : (text front rest key : List ℕ) (cause : LineCause) → cut_at 32 text ≡ Some (front, rest) → text_tested is_atom_text front ≡ Some key → Fails (or_syntax (option_map argument_words (argument_reading rest))) cause → Fails (or_syntax (option_map put_words (put_reading text))) cause
 put_stops text front rest key cause cut named h =
     subst (λ r. Fails r cause) (sym (put_at text front rest key cut named)) (fails_on (or_syntax (option_map argument_words (argument_reading rest))) (with_key key) cause h)
 
@@ -236,7 +231,7 @@ trace_of t = trace t.«module» t.name t.arity t.on
 -- the line of a command of one atom, or another
 abbrev pub by_word : Option AtomCommand → List ℕ → Option ScriptLine → Option ScriptLine
 by_word None rest other = other
-by_word (Some c) rest other = option_map (λ n. on_atom c n) (tested is_atom_text rest)
+by_word (Some c) rest other = option_map (λ n. on_atom c n) (text_tested is_atom_text rest)
 
 -- the line of none of the words that have a step of their own
 abbrev pub by_other : List ℕ → List ℕ × List ℕ → Option ScriptLine
@@ -252,7 +247,7 @@ by_command text parts =
 
 -- the line of an observer, behind its word
 abbrev pub observer_of : List ℕ → Option ScriptLine
-observer_of rest = option_map (λ count. observer count) (tested is_snapshots_text rest)
+observer_of rest = option_map (λ count. observer count) (text_tested is_snapshots_text rest)
 
 abbrev pub by_parts : List ℕ → Option (List ℕ × List ℕ) → Option ScriptLine
 by_parts text None = option_map (λ l. code l) (line_reading text)
@@ -371,7 +366,7 @@ module _ (text : List ℕ) where
       no_beam delete = refl
       no_beam c = refl
 
-      by_atom : (c : AtomCommand) → by_parts text (Some (command_word c, n)) ≡ option_map (λ m. on_atom c m) (tested is_atom_text n)
+      by_atom : (c : AtomCommand) → by_parts text (Some (command_word c, n)) ≡ option_map (λ m. on_atom c m) (text_tested is_atom_text n)
       by_atom delete = refl
       by_atom c = refl
   reads (put key term) is = word_reads put_reader put_of (codes "put") (record { key = key; term = term }) text is.text_is refl refl refl is.sound

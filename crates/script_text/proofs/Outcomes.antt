@@ -3,14 +3,13 @@ use Rattle.std.proofs.Common.{◌≡◌, ℕ, ◌+◌, Bool, true, false, not, �
 use Rattle.std.proofs.Common.{bytes_eq, codes, IsTrue, refl, ap, ◌∙◌, arith, ◌<◌, ◌≤◌, ◌==◌, cond, Option, Some, None, ◌⊎◌}
 use Rattle.std.proofs.Common.{inl, inr, sym, subst, append-nil, drop, slice_get, length-append, append_assoc}
 use Rattle.script_text.proofs.Common.{AllByRecursion, nat_tests, map, Texts, take-append-drop, IfOk, IfErr}
-use Rattle.script_text.proofs.Texts.{failed, bytes_are, lines_of, last_line, all_lines, some_is, passed}
-use Rattle.script_text.proofs.Modules.{is_end, IsScript}
+use Rattle.script_text.proofs.Texts.{failed, bytes_are, lines_of_text, as_last_line, all_lines, some_is, passed}
+use Rattle.script_text.proofs.Modules.{has_no_line, IsScript}
 use Rattle.script_text.proofs.Types.{ScriptFault, Finished, Script, LineCause, Place}
-use Rattle.script_text.proofs.Forms.{ScriptLine, go, script_line_written, is_script_line, IsLine, ◌>>=◌}
-use Rattle.script_text.proofs.Forms.{or_syntax, Known, step, steps, opening, IsShort, AreAllLines, ScriptText}
-use Rattle.script_text.proofs.Forms.{IsMisplaced, Reaches, MisplacedAt, FaultyAt, FaultOf, at_line}
-use Rattle.script_text.proofs.Forms.{line_judged, go_on, text_on, line_at, script_known, ended_at, text_ended}
-use Rattle.script_text.proofs.Forms.{bytes_on, script_reading, fault_at, FailsWith, GivesText}
+use Rattle.script_text.proofs.Forms.{ScriptLine, go, script_line_written, is_script_line, IsLine, ◌>>=◌, or_syntax, Known, step, steps, opening}
+use Rattle.script_text.proofs.Forms.{IsShort, AreAllLines, ScriptText, IsMisplaced, Reaches, MisplacedAt, FaultyAt, FaultOf, at_line, line_judged}
+use Rattle.script_text.proofs.Forms.{go_on, text_on, line_at, script_known, ended_at, text_ended, bytes_on, script_reading, fault_at, FailsWith}
+use Rattle.script_text.proofs.Forms.{GivesText}
 use Rattle.script_text.proofs.OneLine.{reads, form_reading, one_line, form_is}
 use Rattle.script_text.proofs.LineForms.{line_text}
 use Rattle.script_text.proofs.TextSteps.{written, IsPrefix, at_front, room_of, one_more, reaches}
@@ -37,7 +36,7 @@ last_step line false is = refl
 last_step line true is = ap (λ (l : ScriptLine). not (bytes_eq (script_line_written l) (codes "go"))) (is refl)
 
 -- lines that are not refused are read, where the text goes on behind them or the script is finished
-pub run : (todo : List ScriptLine) (number : ℕ) (others : Texts) (tail : List ℕ) (s known : Known) → IsKept s number → AreSound todo → AllByRecursion IsShort todo → steps s number todo ≡ Ok known → (is_end others tail ≡ true → known.place ≡ Finished) → text_on s number (written todo ++ others) tail ≡ text_on known (length todo + number) others tail
+pub run : (todo : List ScriptLine) (number : ℕ) (others : Texts) (tail : List ℕ) (s known : Known) → IsKept s number → AreSound todo → AllByRecursion IsShort todo → steps s number todo ≡ Ok known → (has_no_line others tail ≡ true → known.place ≡ Finished) → text_on s number (written todo ++ others) tail ≡ text_on known (length todo + number) others tail
 run [] number others tail s known h sound short e finished =
     let same = ok_is s known e in
     let none : number ≡ length {A = ScriptLine} [] + number = omega arith in
@@ -46,8 +45,8 @@ run (line ∷ []) number others tail s known h sound short e finished =
     let first = bind_ok (step s number line) (λ next. steps next (number + 1) []) known e in
     let same = ok_is first.0 known first.2 in
     let one : number + 1 ≡ length (line ∷ []) + number = omega arith in
-    let is_go = λ (end : is_end others tail ≡ true). go_only s number (moves s number line first.0 first.1) (ap (λ (k : Known). k.place) same ∙ finished end) in
-    ap (λ (x : Result Known ScriptFault). go_on x (λ n. text_on n (number + 1) others tail)) (one_step line number s first.0 (is_end others tail) h sound.0 short.0 first.1 (last_step line (is_end others tail) is_go))
+    let is_go = λ (end : has_no_line others tail ≡ true). go_only s number (moves s number line first.0 first.1) (ap (λ (k : Known). k.place) same ∙ finished end) in
+    ap (λ (x : Result Known ScriptFault). go_on x (λ n. text_on n (number + 1) others tail)) (one_step line number s first.0 (has_no_line others tail) h sound.0 short.0 first.1 (last_step line (has_no_line others tail) is_go))
     ∙ (λ i. text_on (same i) (one i) others tail)
 run (line ∷ l ∷ todo) number others tail s known h sound short e finished =
     let first = bind_ok (step s number line) (λ next. steps next (number + 1) (l ∷ todo)) known e in
@@ -66,7 +65,7 @@ Comes text (Err fault) = FaultOf text fault
 -- ---- the end of a text
 
 module _ (text : List ℕ) (before : List ScriptLine) (known : Known) where
-  all_read : IsPrefix text before known [] → (lines_of text).tail ≡ [] → known.place ≡ Finished → AreAllLines text before known
+  all_read : IsPrefix text before known [] → (lines_of_text text).tail ≡ [] → known.place ≡ Finished → AreAllLines text before known
   all_read p none place = record {
     short = p.short;
     lines_are = record { written = p.cut ∙ append-nil _; sound = p.sound; short = p.short_lines; known_is = p.known_is };
@@ -78,17 +77,17 @@ module _ (text : List ℕ) (before : List ScriptLine) (known : Known) where
   known_comes None a e = record { lines = before; known = known; whole = a; found = e; value = refl }
   known_comes (Some number) a e = record { lines = before; known = known; whole = a; first = e }
 
-  no_text : IsPrefix text before known [] → (lines_of text).tail ≡ [] → before ≡ [] → FaultOf text (faults.Syntax (length before + 1))
+  no_text : IsPrefix text before known [] → (lines_of_text text).tail ≡ [] → before ≡ [] → FaultOf text (faults.Syntax (length before + 1))
   no_text p none empty = inl (no_bytes text (p.cut ∙ append-nil _ ∙ ap (map script_line_written) empty) none, ap (λ (ls : List ScriptLine). length ls + 1) empty)
 
   -- no line is left, and the text ends with a line feed, or is empty
-  nothing_left : (p : Place) → known.place ≡ p → IsPrefix text before known [] → (lines_of text).tail ≡ [] → (before ≡ []) ⊎ (known.place ≡ Finished) → Comes text (ended_at known (length before + 1) p)
+  nothing_left : (p : Place) → known.place ≡ p → IsPrefix text before known [] → (lines_of_text text).tail ≡ [] → (before ≡ []) ⊎ (known.place ≡ Finished) → Comes text (ended_at known (length before + 1) p)
   nothing_left Finished place p none finished = known_comes known.unknown (all_read p none place) refl
   nothing_left now place p none (inr finished) = let other : now ≡ Finished = sym place ∙ finished in absurd cc
   nothing_left now place p none (inl empty) = no_text p none empty
 
   -- no line is left that ends with a line feed
-  text_ends : (tail : List ℕ) → (lines_of text).tail ≡ tail → IsPrefix text before known [] → (is_end [] tail ≡ true → (before ≡ []) ⊎ (known.place ≡ Finished)) → Comes text (text_ended known (length before + 1) tail)
+  text_ends : (tail : List ℕ) → (lines_of_text text).tail ≡ tail → IsPrefix text before known [] → (has_no_line [] tail ≡ true → (before ≡ []) ⊎ (known.place ≡ Finished)) → Comes text (text_ended known (length before + 1) tail)
   text_ends [] e p finished = nothing_left known.place refl p e (finished refl)
   text_ends (b ∷ bytes) e p finished = by_long (nat_lt 4096 (length (b ∷ bytes))) refl
     where
@@ -97,17 +96,17 @@ module _ (text : List ℕ) (before : List ScriptLine) (known : Known) where
         before = before;
         known = known;
         line = b ∷ bytes;
-        reached = reaches text before known [] [] (b ∷ bytes) p (ap last_line e);
+        reached = reaches text before known [] [] (b ∷ bytes) p (ap as_last_line e);
         number_is = refl;
         long = grind (arith, nat_tests);
       }
       by_long false long =
-          let count : length (lines_of text).ended ≡ length before = let c = ended_count text before known [] p in omega (arith, c) in
+          let count : length (lines_of_text text).ended ≡ length before = let c = ended_count text before known [] p in omega (arith, c) in
           let at : MisplacedAt text (length before + 1) = record {
             before = before;
             known = known;
             line = b ∷ bytes;
-            reached = reaches text before known [] [] (b ∷ bytes) p (ap last_line e);
+            reached = reaches text before known [] [] (b ∷ bytes) p (ap as_last_line e);
             number_is = refl;
             short = grind (arith, nat_tests);
             misplaced = inl count;
@@ -122,7 +121,7 @@ IsLate causes.Syntax = ⊥
 IsLate causes.NoMemory = ⊥
 IsLate cause = Unit {0}
 
-not_end : (texts : Texts) (tail : List ℕ) → is_end texts tail ≡ false → 0 < length texts + length (last_line tail)
+not_end : (texts : Texts) (tail : List ℕ) → has_no_line texts tail ≡ false → 0 < length texts + length (as_last_line tail)
 not_end [] [] e = absurd cc
 not_end [] (b ∷ bytes) e = omega arith
 not_end (line ∷ texts) tail e = omega arith
@@ -131,14 +130,14 @@ not_end (line ∷ texts) tail e = omega arith
 record IsAt (text : List ℕ) (before : List ScriptLine) (known : Known) (line : List ℕ) (texts : Texts) : Type 0 where
   prefix : IsPrefix text before known (line ∷ texts)
   short : length line ≤ 4096
-  goes_on : (is_end texts (lines_of text).tail && not (bytes_eq line (codes "go"))) ≡ false
+  goes_on : (has_no_line texts (lines_of_text text).tail && not (bytes_eq line (codes "go"))) ≡ false
 
 module _ (text : List ℕ) (before : List ScriptLine) (known : Known) (line : List ℕ) (texts : Texts) where
   at_reached : IsPrefix text before known (line ∷ texts) → Reaches text before known line
-  at_reached p = reaches text before known (line ∷ texts) (texts ++ last_line (lines_of text).tail) line p refl
+  at_reached p = reaches text before known (line ∷ texts) (texts ++ as_last_line (lines_of_text text).tail) line p refl
 
   late_at : (form : ScriptLine) (cause : LineCause) → IsAt text before known line texts → IsLine line form → step known (length before + 1) form ≡ Err cause → IsLate cause → FaultyAt text (length before + 1) cause
-  late_at form cause at is e late = by_end (is_end texts (lines_of text).tail) refl at.goes_on
+  late_at form cause at is e late = by_end (has_no_line texts (lines_of_text text).tail) refl at.goes_on
     where
       by_go : (t : Bool) → bytes_eq line (codes "go") ≡ t → not t ≡ false → FaultyAt text (length before + 1) cause
       by_go true is_go g =
@@ -146,10 +145,10 @@ module _ (text : List ℕ) (before : List ScriptLine) (known : Known) (line : Li
           absurd (subst IsLate (go_fails known (length before + 1) cause (ap (step known (length before + 1)) (sym same) ∙ e)) late)
       by_go false is_go g = absurd cc
 
-      by_end : (t : Bool) → is_end texts (lines_of text).tail ≡ t → (t && not (bytes_eq line (codes "go"))) ≡ false → FaultyAt text (length before + 1) cause
+      by_end : (t : Bool) → has_no_line texts (lines_of_text text).tail ≡ t → (t && not (bytes_eq line (codes "go"))) ≡ false → FaultyAt text (length before + 1) cause
       by_end true f g = by_go (bytes_eq line (codes "go")) refl g
       by_end false f g =
-          let more = not_end texts (lines_of text).tail f in
+          let more = not_end texts (lines_of_text text).tail f in
           let all = all_count text before known (line ∷ texts) at.prefix in
           let ended = ended_count text before known (line ∷ texts) at.prefix in
           record {
@@ -173,7 +172,7 @@ record IsMore (text : List ℕ) (before : List ScriptLine) (known : Known) (line
   form_is : IsLine line form
   step_is : step known (length before + 1) form ≡ Ok next
 
-last_alone : (texts : Texts) (tail : List ℕ) → is_end texts tail ≡ true → length texts + length (last_line tail) ≡ 0
+last_alone : (texts : Texts) (tail : List ℕ) → has_no_line texts tail ≡ true → length texts + length (as_last_line tail) ≡ 0
 last_alone [] [] e = refl
 last_alone [] (b ∷ bytes) e = absurd cc
 last_alone (line ∷ texts) tail e = absurd cc
@@ -199,27 +198,27 @@ module _ (text : List ℕ) (before : List ScriptLine) (known : Known) (line : Li
       by_form (Some form) e = by_step form (form_is line form e) (step known (length before + 1) form) refl
 
   -- a line is judged, and then those behind it
-  judged_comes : IsPrefix text before known (line ∷ texts) → (more : Known → Result Script ScriptFault) → ((next : Known) → IsMore text before known line texts next → Comes text (more next)) → Comes text (go_on (line_judged known (length before + 1) (is_end texts (lines_of text).tail) line) more)
+  judged_comes : IsPrefix text before known (line ∷ texts) → (more : Known → Result Script ScriptFault) → ((next : Known) → IsMore text before known line texts next → Comes text (more next)) → Comes text (go_on (line_judged known (length before + 1) (has_no_line texts (lines_of_text text).tail) line) more)
   judged_comes p more rest = by_long (nat_lt 4096 (length line)) refl
     where
       reached : Reaches text before known line
       reached = at_reached text before known line texts p
 
-      stops_at : (end go_is : Bool) → is_end texts (lines_of text).tail ≡ end → bytes_eq line (codes "go") ≡ go_is → (end && not go_is) ≡ true → IsMisplaced text before known line
+      stops_at : (end go_is : Bool) → has_no_line texts (lines_of_text text).tail ≡ end → bytes_eq line (codes "go") ≡ go_is → (end && not go_is) ≡ true → IsMisplaced text before known line
       stops_at false go_is e f g = absurd cc
       stops_at true true e f g = absurd cc
       stops_at true false e f g =
-          let alone = last_alone texts (lines_of text).tail e in
+          let alone = last_alone texts (lines_of_text text).tail e in
           let all = all_count text before known (line ∷ texts) p in
           inr (inl (omega (arith, alone, all), λ is. let yes : bytes_eq line (codes "go") ≡ true = ap (λ (l : List ℕ). bytes_eq l (codes "go")) is in absurd cc))
 
-      by_last : (t : Bool) → length line ≤ 4096 → (is_end texts (lines_of text).tail && not (bytes_eq line (codes "go"))) ≡ t → Comes text (go_on (cond t (Err (faults.Syntax (length before + 1))) (at_line (length before + 1) (line_at known (length before + 1) line known.place))) more)
-      by_last true short e = inr (record { before = before; known = known; line = line; reached = reached; number_is = refl; short = short; misplaced = stops_at (is_end texts (lines_of text).tail) (bytes_eq line (codes "go")) refl refl e })
+      by_last : (t : Bool) → length line ≤ 4096 → (has_no_line texts (lines_of_text text).tail && not (bytes_eq line (codes "go"))) ≡ t → Comes text (go_on (cond t (Err (faults.Syntax (length before + 1))) (at_line (length before + 1) (line_at known (length before + 1) line known.place))) more)
+      by_last true short e = inr (record { before = before; known = known; line = line; reached = reached; number_is = refl; short = short; misplaced = stops_at (has_no_line texts (lines_of_text text).tail) (bytes_eq line (codes "go")) refl refl e })
       by_last false short e = line_comes (record { prefix = p; short = short; goes_on = e }) more rest
 
-      by_long : (t : Bool) → nat_lt 4096 (length line) ≡ t → Comes text (go_on (cond t (Err (faults.LineTooLong (length before + 1))) (cond (is_end texts (lines_of text).tail && not (bytes_eq line (codes "go"))) (Err (faults.Syntax (length before + 1))) (at_line (length before + 1) (line_at known (length before + 1) line known.place)))) more)
+      by_long : (t : Bool) → nat_lt 4096 (length line) ≡ t → Comes text (go_on (cond t (Err (faults.LineTooLong (length before + 1))) (cond (has_no_line texts (lines_of_text text).tail && not (bytes_eq line (codes "go"))) (Err (faults.Syntax (length before + 1))) (at_line (length before + 1) (line_at known (length before + 1) line known.place)))) more)
       by_long true long = record { before = before; known = known; line = line; reached = reached; number_is = refl; long = grind (arith, nat_tests) }
-      by_long false long = by_last (is_end texts (lines_of text).tail && not (bytes_eq line (codes "go"))) (grind (arith, nat_tests)) refl
+      by_long false long = by_last (has_no_line texts (lines_of_text text).tail && not (bytes_eq line (codes "go"))) (grind (arith, nat_tests)) refl
 
 -- ---- the whole text
 
@@ -233,13 +232,13 @@ last_finishes known next number line form is step_is e = by_go (bytes_eq line (c
         go_ends known number next (ap (step known number) (sym same) ∙ step_is)
     by_go false f g = absurd cc
 
-comes_on : (text : List ℕ) (before : List ScriptLine) (known : Known) (texts : Texts) → IsPrefix text before known texts → (is_end texts (lines_of text).tail ≡ true → (before ≡ []) ⊎ (known.place ≡ Finished)) → Comes text (text_on known (length before + 1) texts (lines_of text).tail)
-comes_on text before known [] p finished = text_ends text before known (lines_of text).tail refl p finished
+comes_on : (text : List ℕ) (before : List ScriptLine) (known : Known) (texts : Texts) → IsPrefix text before known texts → (has_no_line texts (lines_of_text text).tail ≡ true → (before ≡ []) ⊎ (known.place ≡ Finished)) → Comes text (text_on known (length before + 1) texts (lines_of_text text).tail)
+comes_on text before known [] p finished = text_ends text before known (lines_of_text text).tail refl p finished
 comes_on text before known (line ∷ texts) p finished =
-    judged_comes text before known line texts p (λ next. text_on next (length before + 1 + 1) texts (lines_of text).tail)
+    judged_comes text before known line texts p (λ next. text_on next (length before + 1 + 1) texts (lines_of_text text).tail)
     (λ next m.
     let number : length (before ++ m.form ∷ []) + 1 ≡ length before + 1 + 1 = ap (λ (n : ℕ). n + 1) (length-snoc before m.form) in
-    subst (λ (n : ℕ). Comes text (text_on next n texts (lines_of text).tail)) number
+    subst (λ (n : ℕ). Comes text (text_on next n texts (lines_of_text text).tail)) number
     (comes_on text (before ++ m.form ∷ []) next texts (one_more text before known next line texts m.form p m.form_is m.at.short m.step_is)
     (λ e. inr (last_finishes known next (length before + 1) line m.form m.form_is m.step_is (ap (λ t. t && not (bytes_eq line (codes "go"))) (sym e) ∙ m.at.goes_on)))))
 
@@ -249,7 +248,7 @@ comes text = by_long (nat_lt 1048576 (length text)) refl
   where
     by_long : (t : Bool) → nat_lt 1048576 (length text) ≡ t → Comes text (cond t (Err faults.FileTooLong) (bytes_on opening 1 text))
     by_long true long = grind (arith, nat_tests)
-    by_long false long = comes_on text [] opening (lines_of text).ended (at_front text (grind (arith, nat_tests))) (λ e. inl refl)
+    by_long false long = comes_on text [] opening (lines_of_text text).ended (at_front text (grind (arith, nat_tests))) (λ e. inl refl)
 
 -- ---- the script of a text is read, and each fault of a text is the one that is found
 
@@ -261,9 +260,9 @@ get_behind (x ∷ xs) ys = get_behind xs ys
 
 -- the lines before the one at hand were read
 pub record IsReached (text : List ℕ) (before : List ScriptLine) (known : Known) (line : List ℕ) (others : Texts) (tail : List ℕ) : Type 0 where
-  pub cut : (lines_of text).ended ≡ written before ++ others
-  pub tail_is : (lines_of text).tail ≡ tail
-  pub at : slice_get (others ++ last_line tail) 0 ≡ Some line
+  pub cut : (lines_of_text text).ended ≡ written before ++ others
+  pub tail_is : (lines_of_text text).tail ≡ tail
+  pub at : slice_get (others ++ as_last_line tail) 0 ≡ Some line
   pub room : length known.names ≤ 4096
   pub same : script_reading text ≡ text_on known (length before + 1) others tail
 
@@ -271,17 +270,17 @@ short_reading : (text : List ℕ) → length text ≤ 1048576 → script_reading
 short_reading text short = let small : nat_lt 1048576 (length text) ≡ false = grind (arith, nat_tests) in failed (nat_lt 1048576 (length text)) (Err faults.FileTooLong) (bytes_on opening 1 text) small
 
 module _ (text : List ℕ) (before : List ScriptLine) (known : Known) where
-  line_cut : (line : List ℕ) (h : Reaches text before known line) → (lines_of text).ended ≡ written before ++ drop (length before) (lines_of text).ended
-  line_cut line h = sym (take-append-drop (length before) (lines_of text).ended) ∙ ap (λ (ls : Texts). ls ++ drop (length before) (lines_of text).ended) h.before_are.written
+  line_cut : (line : List ℕ) (h : Reaches text before known line) → (lines_of_text text).ended ≡ written before ++ drop (length before) (lines_of_text text).ended
+  line_cut line h = sym (take-append-drop (length before) (lines_of_text text).ended) ∙ ap (λ (ls : Texts). ls ++ drop (length before) (lines_of_text text).ended) h.before_are.written
 
-  reached : (line : List ℕ) → Reaches text before known line → IsReached text before known line (drop (length before) (lines_of text).ended) (lines_of text).tail
+  reached : (line : List ℕ) → Reaches text before known line → IsReached text before known line (drop (length before) (lines_of_text text).ended) (lines_of_text text).tail
   reached line h =
-      let others = drop (length before) (lines_of text).ended in
-      let tail = (lines_of text).tail in
+      let others = drop (length before) (lines_of_text text).ended in
+      let tail = (lines_of_text text).tail in
       let cut = line_cut line h in
-      let all : all_lines text ≡ written before ++ (others ++ last_line tail) = ap (λ (ls : Texts). ls ++ last_line tail) cut ∙ append_assoc (written before) others (last_line tail) in
+      let all : all_lines text ≡ written before ++ (others ++ as_last_line tail) = ap (λ (ls : Texts). ls ++ as_last_line tail) cut ∙ append_assoc (written before) others (as_last_line tail) in
       let back = sym all in
-      let at : slice_get (others ++ last_line tail) 0 ≡ Some line = sym (get_behind (written before) (others ++ last_line tail)) ∙ (λ i. slice_get (back i) (written_length before i)) ∙ h.line_at in
+      let at : slice_get (others ++ as_last_line tail) 0 ≡ Some line = sym (get_behind (written before) (others ++ as_last_line tail)) ∙ (λ i. slice_get (back i) (written_length before i)) ∙ h.line_at in
       let are = h.before_are in
       record {
         cut = cut;
@@ -294,7 +293,7 @@ module _ (text : List ℕ) (before : List ScriptLine) (known : Known) where
             ∙ run before 1 others tail opening known opening_kept are.sound are.short are.known_is (λ e. absurd (some_behind others tail line at e));
       }
     where
-      some_behind : (others : Texts) (tail line : List ℕ) → slice_get (others ++ last_line tail) 0 ≡ Some line → is_end others tail ≡ true → ⊥
+      some_behind : (others : Texts) (tail line : List ℕ) → slice_get (others ++ as_last_line tail) 0 ≡ Some line → has_no_line others tail ≡ true → ⊥
       some_behind [] [] line at e = cc
       some_behind [] (b ∷ bytes) line at e = cc
       some_behind (l ∷ others) tail line at e = cc
@@ -347,25 +346,25 @@ module _ (known : Known) (number : ℕ) (line : List ℕ) where
 
 module _ (text : List ℕ) (before : List ScriptLine) (known : Known) (line : List ℕ) where
   -- the fault of a line is the text's
-  line_stops : (l : List ℕ) (others : Texts) (tail : List ℕ) (fault : ScriptFault) → IsReached text before known line (l ∷ others) tail → line_judged known (length before + 1) (is_end others tail) line ≡ Err fault → script_reading text ≡ Err fault
+  line_stops : (l : List ℕ) (others : Texts) (tail : List ℕ) (fault : ScriptFault) → IsReached text before known line (l ∷ others) tail → line_judged known (length before + 1) (has_no_line others tail) line ≡ Err fault → script_reading text ≡ Err fault
   line_stops l others tail fault r e =
       let same = some_is l line r.at in
-      r.same ∙ ap (λ (s : Result Known ScriptFault). go_on s (λ next. text_on next (length before + 1 + 1) others tail)) (ap (line_judged known (length before + 1) (is_end others tail)) same ∙ e)
+      r.same ∙ ap (λ (s : Result Known ScriptFault). go_on s (λ next. text_on next (length before + 1 + 1) others tail)) (ap (line_judged known (length before + 1) (has_no_line others tail)) same ∙ e)
 
-  misplaced_line : (l : List ℕ) (others : Texts) (tail : List ℕ) → IsReached text before known line (l ∷ others) tail → length line ≤ 4096 → IsMisplaced text before known line → cond (is_end others tail && not (bytes_eq line (codes "go"))) (Err (faults.Syntax (length before + 1))) (at_line (length before + 1) (line_at known (length before + 1) line known.place)) ≡ Err (faults.Syntax (length before + 1))
+  misplaced_line : (l : List ℕ) (others : Texts) (tail : List ℕ) → IsReached text before known line (l ∷ others) tail → length line ≤ 4096 → IsMisplaced text before known line → cond (has_no_line others tail && not (bytes_eq line (codes "go"))) (Err (faults.Syntax (length before + 1))) (at_line (length before + 1) (line_at known (length before + 1) line known.place)) ≡ Err (faults.Syntax (length before + 1))
   misplaced_line l others tail r short (inl count) =
-      let ended : length (lines_of text).ended ≡ length (written before ++ l ∷ others) = ap (λ (ls : Texts). length ls) r.cut in
+      let ended : length (lines_of_text text).ended ≡ length (written before ++ l ∷ others) = ap (λ (ls : Texts). length ls) r.cut in
       let sum : length (written before ++ l ∷ others) ≡ length (written before) + (length others + 1) = simp length-append (omega arith) in
       absurd (omega (arith, written_length before, ended, sum, count))
   misplaced_line l others tail r short (inr (inl (count, other))) =
-      let all : length (all_lines text) ≡ length ((written before ++ l ∷ others) ++ last_line tail) = (λ i. length (r.cut i ++ last_line (r.tail_is i))) in
-      let sum : length ((written before ++ l ∷ others) ++ last_line tail) ≡ length (written before) + (length others + 1 + length (last_line tail)) = simp length-append (omega arith) in
-      let none : length others + length (last_line tail) ≡ 0 = omega (arith, written_length before, all, sum, count) in
+      let all : length (all_lines text) ≡ length ((written before ++ l ∷ others) ++ as_last_line tail) = (λ i. length (r.cut i ++ as_last_line (r.tail_is i))) in
+      let sum : length ((written before ++ l ∷ others) ++ as_last_line tail) ≡ length (written before) + (length others + 1 + length (as_last_line tail)) = simp length-append (omega arith) in
+      let none : length others + length (as_last_line tail) ≡ 0 = omega (arith, written_length before, all, sum, count) in
       let at_end = ends others tail none in
       let no_go = other_text line other in
-      passed (is_end others tail && not (bytes_eq line (codes "go"))) (Err (faults.Syntax (length before + 1))) _ (λ i. at_end i && not (no_go i))
+      passed (has_no_line others tail && not (bytes_eq line (codes "go"))) (Err (faults.Syntax (length before + 1))) _ (λ i. at_end i && not (no_go i))
     where
-      ends : (others : Texts) (tail : List ℕ) → length others + length (last_line tail) ≡ 0 → is_end others tail ≡ true
+      ends : (others : Texts) (tail : List ℕ) → length others + length (as_last_line tail) ≡ 0 → has_no_line others tail ≡ true
       ends [] [] e = refl
       ends [] (b ∷ bytes) e = absurd (omega (arith, e))
       ends (l ∷ others) tail e = absurd (omega (arith, e))
@@ -376,7 +375,7 @@ module _ (text : List ℕ) (before : List ScriptLine) (known : Known) (line : Li
           by_test : (t : Bool) → bytes_eq line (codes "go") ≡ t → t ≡ false
           by_test true e = absurd (other (bytes_are line (codes "go") e))
           by_test false e = refl
-  misplaced_line l others tail r short (inr (inr none)) = by_last (is_end others tail && not (bytes_eq line (codes "go")))
+  misplaced_line l others tail r short (inr (inr none)) = by_last (has_no_line others tail && not (bytes_eq line (codes "go")))
     where
       by_last : (t : Bool) → cond t (Err (faults.Syntax (length before + 1))) (at_line (length before + 1) (line_at known (length before + 1) line known.place)) ≡ Err (faults.Syntax (length before + 1))
       by_last true = refl
@@ -385,28 +384,28 @@ module _ (text : List ℕ) (before : List ScriptLine) (known : Known) (line : Li
   misplaced : (others : Texts) (tail : List ℕ) → IsReached text before known line others tail → length line ≤ 4096 → IsMisplaced text before known line → script_reading text ≡ Err (faults.Syntax (length before + 1))
   misplaced [] [] r short is = let nothing = r.at in absurd cc
   misplaced [] (b ∷ bytes) r short is = tail_stops text before known line b bytes r short
-  misplaced (l ∷ others) tail r short is = line_stops l others tail (faults.Syntax (length before + 1)) r (line_judged_is known (length before + 1) (is_end others tail) line _ short (misplaced_line l others tail r short is))
+  misplaced (l ∷ others) tail r short is = line_stops l others tail (faults.Syntax (length before + 1)) r (line_judged_is known (length before + 1) (has_no_line others tail) line _ short (misplaced_line l others tail r short is))
 
 -- ---- a limit, or something that is given again
 
 late_line : (text : List ℕ) (number : ℕ) (cause : LineCause) (f : FaultyAt text number cause) (others : Texts) (tail : List ℕ) → IsReached text f.before f.known f.line others tail → script_reading text ≡ Err (fault_at number cause)
 late_line text number cause f [] tail r =
-    let ended : length (lines_of text).ended ≡ length (written f.before ++ []) = ap (λ (ls : Texts). length ls) r.cut in
+    let ended : length (lines_of_text text).ended ≡ length (written f.before ++ []) = ap (λ (ls : Texts). length ls) r.cut in
     let sum : length (written f.before ++ []) ≡ length (written f.before) = ap (λ (ls : Texts). length ls) (append-nil (written f.before)) in
     let more = f.ended in
     absurd (omega (arith, written_length f.before, ended, sum, more))
 late_line text number cause f (l ∷ others) tail r =
-    let all : length (all_lines text) ≡ length ((written f.before ++ l ∷ others) ++ last_line tail) = (λ i. length (r.cut i ++ last_line (r.tail_is i))) in
-    let sum : length ((written f.before ++ l ∷ others) ++ last_line tail) ≡ length (written f.before) + (length others + 1 + length (last_line tail)) = simp length-append (omega arith) in
+    let all : length (all_lines text) ≡ length ((written f.before ++ l ∷ others) ++ as_last_line tail) = (λ i. length (r.cut i ++ as_last_line (r.tail_is i))) in
+    let sum : length ((written f.before ++ l ∷ others) ++ as_last_line tail) ≡ length (written f.before) + (length others + 1 + length (as_last_line tail)) = simp length-append (omega arith) in
     let more = f.more in
-    let some : 0 < length others + length (last_line tail) = omega (arith, written_length f.before, all, sum, more) in
+    let some : 0 < length others + length (as_last_line tail) = omega (arith, written_length f.before, all, sum, more) in
     let goes_on = not_end others tail some in
-    line_stops text f.before f.known f.line l others tail (fault_at (length f.before + 1) cause) r (line_judged_is f.known (length f.before + 1) (is_end others tail) f.line _ f.short
+    line_stops text f.before f.known f.line l others tail (fault_at (length f.before + 1) cause) r (line_judged_is f.known (length f.before + 1) (has_no_line others tail) f.line _ f.short
     (ap (λ t. cond (t && not (bytes_eq f.line (codes "go"))) (Err (faults.Syntax (length f.before + 1))) (at_line (length f.before + 1) (line_at f.known (length f.before + 1) f.line f.known.place))) goes_on
     ∙ form_stops f.known (length f.before + 1) f.line f.form cause r.room f.form_is f.cause_is))
     ∙ ap (λ (n : ℕ). let so : Result Script ScriptFault = Err (fault_at n cause) in so) (sym f.number_is)
   where
-    not_end : (others : Texts) (tail : List ℕ) → 0 < length others + length (last_line tail) → is_end others tail ≡ false
+    not_end : (others : Texts) (tail : List ℕ) → 0 < length others + length (as_last_line tail) → has_no_line others tail ≡ false
     not_end [] [] e = absurd (omega (arith, e))
     not_end [] (b ∷ bytes) e = refl
     not_end (l ∷ others) tail e = refl

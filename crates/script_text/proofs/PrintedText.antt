@@ -5,12 +5,10 @@ use Rattle.script_text.proofs.Common.{AllByRecursion, flat_map, list_any, flat_m
 use Rattle.script_text.proofs.Types.{Module, Term, ModRef, Script, ScriptCmd}
 use Rattle.mod_text.specs.Canonical.{canonical as module_lines}
 use Rattle.script_text.proofs.Modules.{LineForm, line_bytes, lines_written}
-use Rattle.script_text.proofs.Texts.{Lines, lines, lines_of, cut_at, lacks, lines_behind, lines_of_cut}
-use Rattle.script_text.proofs.Texts.{lines_of_tail, uncut_is, LackLineFeed, plain, row_of, term_text, parted}
-use Rattle.script_text.proofs.Texts.{behind}
-use Rattle.script_text.proofs.Forms.{ScriptLine, code, script_line_written, observer, load, go, ref_written}
-use Rattle.script_text.proofs.Forms.{code_form, script_line_bytes, ref_form, argument_form, command_line}
-use Rattle.script_text.proofs.Forms.{observer_form, block_form, observer_bytes, block_bytes, canonical_text, is_long_line}
+use Rattle.script_text.proofs.Texts.{Lines, lines, lines_of_text, cut_at, lacks, lines_behind, lines_of_cut, lines_of_tail, uncut_is, LackLineFeed}
+use Rattle.script_text.proofs.Texts.{plain, row_of, term_text, parted, behind}
+use Rattle.script_text.proofs.Forms.{ScriptLine, code, script_line_written, observer, load, go, ref_written, code_form, script_line_bytes, ref_form}
+use Rattle.script_text.proofs.Forms.{term_form, command_line, observer_form, block_form, observer_bytes, block_bytes, canonical_text, is_long_line}
 use Rattle.std.proofs.lemmas.List.Folds.{flat_map-map}
 
 pub lack_of_forms : (forms : List ScriptLine) → LackLineFeed (map script_line_written forms) → AllByRecursion (λ line. lacks 10 (script_line_written line) ≡ true) forms
@@ -18,11 +16,11 @@ lack_of_forms [] h = tt
 lack_of_forms (line ∷ forms) h = (h.0, lack_of_forms forms h.1)
 
 -- the lines of the bytes of lines
-pub lines_of_bytes : (forms : List ScriptLine) → AllByRecursion (λ line. lacks 10 (script_line_written line) ≡ true) forms → lines_of (flat_map script_line_bytes forms) ≡ lines (map script_line_written forms) []
+pub lines_of_bytes : (forms : List ScriptLine) → AllByRecursion (λ line. lacks 10 (script_line_written line) ≡ true) forms → lines_of_text (flat_map script_line_bytes forms) ≡ lines (map script_line_written forms) []
 lines_of_bytes [] h = refl
 lines_of_bytes (line ∷ forms) h =
     let text = script_line_written line in
-    ap lines_of (append_assoc text (10 ∷ []) (flat_map script_line_bytes forms))
+    ap lines_of_text (append_assoc text (10 ∷ []) (flat_map script_line_bytes forms))
     ∙ lines_behind text (flat_map script_line_bytes forms) h.0
     ∙ ap (λ (w : Lines). lines (text ∷ w.ended) w.tail) (lines_of_bytes forms h.1)
 
@@ -52,14 +50,14 @@ module _ (names : Texts) where
   pub block_written : (commands : List ScriptCmd) → block_bytes names commands ≡ codes "loader\n" ++ flat_map (λ command. script_line_bytes (command_line names command)) commands
   block_written commands = ap (λ (t : List ℕ). codes "loader\n" ++ t) (flat_map-map script_line_bytes (command_line names) commands)
 
-  behind_written : (terms : List Term) → behind (row_of (map (argument_form names) (map plain terms))) ≡ flat_map (λ term. 44 ∷ term_text names term) terms
+  behind_written : (terms : List Term) → behind (row_of (map (term_form names) (map plain terms))) ≡ flat_map (λ term. 44 ∷ term_text names term) terms
   behind_written [] = refl
   behind_written (t ∷ terms) = ap (λ (l : List ℕ). 44 ∷ term_text names t ++ l) (behind_written terms)
 
   -- the text of terms: the first, and the others with a comma before each
-  pub terms_written : (terms others : List Term) (first : Term) → terms ≡ first ∷ others → parted (row_of (map (argument_form names) (map plain terms))) ≡ term_text names first ++ flat_map (λ term. 44 ∷ term_text names term) others
+  pub terms_written : (terms others : List Term) (first : Term) → terms ≡ first ∷ others → parted (row_of (map (term_form names) (map plain terms))) ≡ term_text names first ++ flat_map (λ term. 44 ∷ term_text names term) others
   terms_written terms others first e =
-      ap (λ (ts : List Term). parted (row_of (map (argument_form names) (map plain ts)))) e ∙ ap (λ (l : List ℕ). term_text names first ++ l) (behind_written others)
+      ap (λ (ts : List Term). parted (row_of (map (term_form names) (map plain ts)))) e ∙ ap (λ (l : List ℕ). term_text names first ++ l) (behind_written others)
 
   blocks_bytes : (loaders : List (List ScriptCmd)) → flat_map script_line_bytes (flat_map (block_form names) loaders) ≡ flat_map (block_bytes names) loaders
   blocks_bytes [] = refl
@@ -83,11 +81,11 @@ script_written s =
 -- ---- long lines
 
 -- the line at the front is long, or another is
-pub any_long : (rest : List ℕ) (line behind : List ℕ) → cut_at 10 rest ≡ Some (line, behind) → list_any is_long_line (lines_of rest).ended ≡ (is_long_line line || list_any is_long_line (lines_of behind).ended)
+pub any_long : (rest : List ℕ) (line behind : List ℕ) → cut_at 10 rest ≡ Some (line, behind) → list_any is_long_line (lines_of_text rest).ended ≡ (is_long_line line || list_any is_long_line (lines_of_text behind).ended)
 any_long rest line behind cut = ap (λ (w : Lines). list_any is_long_line w.ended) (lines_of_cut rest (line, behind) cut)
 
 -- where there is no line, none is long
-pub none_long : (rest : List ℕ) → cut_at 10 rest ≡ None → list_any is_long_line (lines_of rest).ended ≡ false
+pub none_long : (rest : List ℕ) → cut_at 10 rest ≡ None → list_any is_long_line (lines_of_text rest).ended ≡ false
 none_long rest uncut = ap (λ (w : Lines). list_any is_long_line w.ended) (lines_of_tail rest (uncut_is 10 rest uncut))
 
 -- ---- ends

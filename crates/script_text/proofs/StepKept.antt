@@ -1,15 +1,13 @@
 -- What stays true of what is known, line by line, without looking back: room for names, the count of an open text, what is noted.
-use Rattle.script_text.proofs.Common.{◌≡◌, ℕ, ◌+◌, ◌<◌, ◌≤◌, Bool, true, false, cond, List, [], ◌∷◌, ◌++◌, length}
-use Rattle.script_text.proofs.Common.{Option, Some, None, Ok, refl, sym, subst, arith, length-append, Texts}
-use Rattle.script_text.proofs.Common.{nat_le, nat_lt, Result, Err, ◌∙◌, IfSome}
+use Rattle.script_text.proofs.Common.{◌≡◌, ℕ, ◌+◌, ◌<◌, ◌≤◌, Bool, true, false, cond, List, [], ◌∷◌, ◌++◌, length, Option, Some, None, Ok, refl, sym}
+use Rattle.script_text.proofs.Common.{subst, arith, length-append, Texts, nat_le, nat_lt, Result, Err, ◌∙◌, IfSome}
 use Rattle.script_text.proofs.Texts.{test_not_lt, names_with_all}
 use Rattle.script_text.proofs.Modules.{LineForm, title, last_line, names_after, overfills_names, has_high_register}
 use Rattle.script_text.proofs.Modules.{has_wide_integer, has_long_term, is_seventeenth, ends_too_long}
 use Rattle.script_text.proofs.Modules.{is_repeated, fault_of_line, may_follow, counted_name, IsTitled, unsettled_line, judged, kept}
 use Rattle.script_text.proofs.Types.{Place, Between, Within, Observing, Loading, Unread, Finished, Mfa, LineFault, ModRef, LineCause}
-use Rattle.script_text.proofs.Forms.{ScriptLine, RefForm, head, code, observer, loader, load, on_atom, put, trace}
-use Rattle.script_text.proofs.Forms.{spawn, go, script_line_atoms, or_else, is_wide, is_long, ◌>>=◌}
-use Rattle.script_text.proofs.Forms.{passes_functions, is_among, ref_added, counted_added, passes_counted}
+use Rattle.script_text.proofs.Forms.{ScriptLine, RefForm, head, code, observer, loader, load, on_atom, put, trace, spawn, go, script_line_atoms}
+use Rattle.script_text.proofs.Forms.{or_else, is_wide, is_long, ◌>>=◌, passes_functions, is_among, ref_added, counted_added, passes_counted}
 use Rattle.script_text.specs.LineStep.{Known, opening, is_text_end, closed_by, text_closed, loads_given, step, steps, by_code, step_titled}
 use Rattle.script_text.specs.LineStep.{step_title, code_judged, step_code, names_added, spawned_in, processes_with, step_named}
 use Rattle.script_text.specs.LineStep.{step_command, step_head, step_within, step_observing, step_between, step_loading, step_at}

@@ -3,9 +3,8 @@ use Rattle.std.proofs.Common.{◌≡◌, Result, Ok, ℕ, ◌+◌, List, [], ◌
 use Rattle.std.proofs.Common.{length-append, IsTrue, ◌≤◌, Bool, true, false, cond, nat_le, nat_lt, Option, Some, None, subst}
 use Rattle.script_text.proofs.Common.{AllByRecursion, fold}
 use Rattle.script_text.proofs.Types.{LineCause, Place, Between, Observing, Loading, Finished, Unread, Within, Mfa, LineFault, ModRef}
-use Rattle.script_text.proofs.Forms.{ScriptLine, go, is_script_line, RefForm, head, code, observer, loader, load}
-use Rattle.script_text.proofs.Forms.{on_atom, put, trace, spawn, ◌>>=◌, onto_last, script_line_atoms}
-use Rattle.script_text.proofs.Forms.{ref_in, commands_on, or_else, is_wide, is_long, is_among, counted_added}
+use Rattle.script_text.proofs.Forms.{ScriptLine, go, is_script_line, RefForm, head, code, observer, loader, load, on_atom, put, trace, spawn, ◌>>=◌}
+use Rattle.script_text.proofs.Forms.{onto_last, script_line_atoms, ref_in, commands_on, or_else, is_wide, is_long, is_among, counted_added}
 use Rattle.script_text.specs.LineStep.{Known, step_at, step, steps, by_code, step_titled, step_title, text_closed, code_judged}
 use Rattle.script_text.specs.LineStep.{step_code, names_added, spawned_in, processes_with, loads_given, step_named}
 use Rattle.script_text.specs.LineStep.{step_command, step_head, step_within, step_observing, step_between, step_loading}

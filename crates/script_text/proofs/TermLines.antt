@@ -1,70 +1,27 @@
 -- The terms of a line: the text of each, and what they are by names that hold their atoms.
-use Rattle.script_text.proofs.Common.{◌≡◌, ℕ, Bool, true, false, List, [], ◌∷◌, Some, option_map, cond, ◌||◌, ◌==◌}
-use Rattle.script_text.proofs.Common.{refl, sym, ap, ◌∙◌, subst, ◌<◌, ◌≤◌, ◌&&◌, nat_le, decimal, Texts}
-use Rattle.script_text.proofs.Common.{Option, unwrap_or, arith, ◌++◌, pos, is_some, and_parts, and_from}
-use Rattle.script_text.proofs.Common.{Decides-eqb, signed_decimal, map, AllByRecursion, flat_map, list_all}
+use Rattle.script_text.proofs.Common.{◌≡◌, ℕ, Bool, true, false, List, [], ◌∷◌, Some, option_map, cond, ◌||◌, ◌==◌, refl, sym, ap, ◌∙◌, subst, ◌<◌}
+use Rattle.script_text.proofs.Common.{◌≤◌, ◌&&◌, nat_le, decimal, Texts, Option, unwrap_or, arith, ◌++◌, is_some, and_parts, Decides-eqb}
+use Rattle.script_text.proofs.Common.{signed_decimal, map, AllByRecursion, flat_map, list_all}
 use Rattle.term_core.specs.Faults.{IsTextOf}
-use Rattle.script_text.proofs.Texts.{is_atom_text, Extends, TermOf, RowOf, integer_leaf, atom_leaf, tuple_of}
-use Rattle.script_text.proofs.Texts.{list_of, no_terms, term_then, PlainTerm, EachInRow, map_row, atoms_of}
-use Rattle.script_text.proofs.Texts.{row_atoms, is_term_text, is_complex_text, tree_of, IsFormOf, is_wide_text}
-use Rattle.script_text.proofs.Texts.{WrittenTerm, written, is_integer_text, HasLeafTexts, IsTermInteger}
-use Rattle.script_text.proofs.Texts.{IntegersFit, integer_of, outside_of, is_term_byte, term_bytes-written}
-use Rattle.script_text.proofs.Texts.{is_term_text-form, form_is, tree_is, tested, lacks, lacks-all, some}
-use Rattle.script_text.proofs.Texts.{some_is, map_some, passed, failed, tested_is, tested_at, atom_text}
-use Rattle.script_text.proofs.Texts.{number_in, term_text, slice_get-number_of, number_value, is_number_text}
-use Rattle.script_text.proofs.Texts.{decimal_again, test_le, none_by, HasNumber, term_of, plain-term_of}
-use Rattle.term_core.specs.TermForms.{term_atoms, term_in}
+use Rattle.script_text.proofs.Texts.{is_atom_text, Extends, TermOf, RowOf, integer_leaf, atom_leaf, tuple_of, list_of, no_terms, term_then}
+use Rattle.script_text.proofs.Texts.{PlainTerm, EachInRow, map_row, atoms_of, row_atoms, is_term_text, is_complex_text, tree_of, IsFormOf}
+use Rattle.script_text.proofs.Texts.{WrittenTerm, written, is_integer_text, IsTermInteger, IntegersFit, integer_of, outside_of, is_term_text-form}
+use Rattle.script_text.proofs.Texts.{form_is, tree_is, text_tested, some, some_is, map_some, passed, failed, tested_is, tested_at, atom_text}
+use Rattle.script_text.proofs.Texts.{number_in, slice_get-number_of, number_value, is_number_text, decimal_again, test_le, none_by, HasNumber}
 use Rattle.term_core.proofs.Shapes.{no_atom_text}
-use Rattle.term_core.proofs.WrittenTokens.{RowHasLeafTexts}
-use Rattle.script_text.proofs.Forms.{is_term_form, is_row_form, is_snapshots_text, argument_reading, argument_form, argument_in}
+use Rattle.script_text.proofs.Forms.{is_term_form, is_row_form, is_snapshots_text, argument_reading, term_form, argument_in}
 use Rattle.script_text.specs.KeptTerm.{complex, argument_words}
-use Rattle.script_text.proofs.Modules.{is_version_text, is_arity_text, are_atoms, both_atoms}
-use Rattle.script_text.proofs.HeldNames.{number_is, number_in-more, number_in-after}
-use Rattle.term_core.specs.Tokens.{Token, opened, shut, leaf, tokens_in, atoms_among, leaf_of, shut_terms, built}
-use Rattle.term_core.specs.Tops.{top_of, without_top}
+use Rattle.script_text.proofs.Modules.{is_version_text, is_arity_text, are_atoms, both_atoms, sound_form, text_of_form, term_atoms_are}
+use Rattle.script_text.proofs.HeldNames.{number_is, number_in-after}
 use Rattle.term_core.proofs.IntegerTexts.{signed_decimal-integer_of}
 use Rattle.term_core.proofs.Ranges.{fits_of_none}
 use Rattle.term_core.proofs.Text.Items.{IsItem}
 use Rattle.mod_text.proofs.LineReaders.{arity_number, arity_few, version_number, version_bounds}
 use Rattle.mod_text.proofs.Readers.{Reader, fitting}
 
--- ---- forms
-
--- each leaf of a form has its text
-mutual
-  pub leaf_texts : (t : TermOf (List ℕ) (List ℕ)) → is_term_form t ≡ true → HasLeafTexts t
-  leaf_texts (integer_leaf text) h = h
-  leaf_texts (atom_leaf text) h = h
-  leaf_texts (tuple_of row) h = row_texts row h
-  leaf_texts (list_of row) h = row_texts row h
-
-  row_texts : (row : RowOf (List ℕ) (List ℕ)) → is_row_form row ≡ true → RowHasLeafTexts row
-  row_texts no_terms h = tt
-  row_texts (term_then t row) h = let p = and_parts (is_term_form t) (is_row_form row) h in (leaf_texts t p.0, row_texts row p.1)
-
--- and what has them is a form
-mutual
-  pub sound_form : (t : TermOf (List ℕ) (List ℕ)) → HasLeafTexts t → is_term_form t ≡ true
-  sound_form (integer_leaf text) h = h
-  sound_form (atom_leaf text) h = h
-  sound_form (tuple_of row) h = row_is row h
-  sound_form (list_of row) h = row_is row h
-
-  row_is : (row : RowOf (List ℕ) (List ℕ)) → RowHasLeafTexts row → is_row_form row ≡ true
-  row_is no_terms h = refl
-  row_is (term_then t row) h = and_from (is_term_form t) (is_row_form row) (sound_form t h.0) (row_is row h.1)
-
--- the text of a form
-pub text_of_form : (t : WrittenTerm) → is_term_form t ≡ true → IsTextOf (written t) t
-text_of_form t h = record { whole = refl; leaves = leaf_texts t h }
-
--- what is no term's byte stands in no form's text
-pub term_lacks : (byte : ℕ) (t : WrittenTerm) → is_term_byte byte ≡ false → is_term_form t ≡ true → lacks byte (written t) ≡ true
-term_lacks byte t apart h = lacks-all is_term_byte byte (written t) apart (term_bytes-written t (leaf_texts t h))
-
 -- ---- terms of a line
 
-complex_again : (t : WrittenTerm) → is_term_form t ≡ true → is_complex_text (written t) ≡ true → option_map tree_of (tested is_complex_text (written t)) ≡ Some t
+complex_again : (t : WrittenTerm) → is_term_form t ≡ true → is_complex_text (written t) ≡ true → option_map tree_of (text_tested is_complex_text (written t)) ≡ Some t
 complex_again t h e =
     ap (option_map tree_of) (tested_at is_complex_text (written t) e) ∙ ap (λ u. some u) (form_is (written t) t (text_of_form t h)).tree
 
@@ -87,18 +44,18 @@ complex_text : (text : List ℕ) → is_complex_text text ≡ true → IsFormOf 
 complex_text text h = tree_is text (and_parts _ (is_term_text text) h).1
 
 module _ (text : List ℕ) (t : WrittenTerm) where
-  complex_is : option_map tree_of (tested is_complex_text text) ≡ Some t → IsArgument text t
+  complex_is : option_map tree_of (text_tested is_complex_text text) ≡ Some t → IsArgument text t
   complex_is e =
-      let m = map_some tree_of (tested is_complex_text text) t e in
+      let m = map_some tree_of (text_tested is_complex_text text) t e in
       let is = tested_is is_complex_text text m.0 m.1 in
       let form = complex_text m.0 is.1 in
       subst (IsArgument text) m.2 (record { text_is = is.0 ∙ form.is_text.whole; fits = sound_form (tree_of m.0) form.is_text.leaves })
 
-  integer_is : (b : Bool) → is_integer_text text ≡ b → cond b (Some (integer_leaf text)) (option_map tree_of (tested is_complex_text text)) ≡ Some t → IsArgument text t
+  integer_is : (b : Bool) → is_integer_text text ≡ b → cond b (Some (integer_leaf text)) (option_map tree_of (text_tested is_complex_text text)) ≡ Some t → IsArgument text t
   integer_is true h e = subst (IsArgument text) (some_is (integer_leaf text) t e) (record { text_is = refl; fits = h })
   integer_is false h e = complex_is e
 
-  atom_is : (b : Bool) → is_atom_text text ≡ b → cond b (Some (atom_leaf text)) (cond (is_integer_text text) (Some (integer_leaf text)) (option_map tree_of (tested is_complex_text text))) ≡ Some t → IsArgument text t
+  atom_is : (b : Bool) → is_atom_text text ≡ b → cond b (Some (atom_leaf text)) (cond (is_integer_text text) (Some (integer_leaf text)) (option_map tree_of (text_tested is_complex_text text))) ≡ Some t → IsArgument text t
   atom_is true h e = subst (IsArgument text) (some_is (atom_leaf text) t e) (record { text_is = refl; fits = h })
   atom_is false h e = integer_is (is_integer_text text) refl e
 
@@ -202,48 +159,9 @@ terms_after names after (t ∷ ts) e h =
     let more = terms_after names after ts e p.1 in
     λ i. first i ∷ more i
 
--- ---- texts of terms
-
-leaf_more : (names more : Texts) (text : List ℕ) (b : Bool) → (b ≡ true → HasNumber names text) → cond {A = PlainTerm} b (atom_leaf (number_in (names ++ more) text)) (integer_leaf (integer_of text)) ≡ cond b (atom_leaf (number_in names text)) (integer_leaf (integer_of text))
-leaf_more names more text true h = ap (λ (n : ℕ). let u : PlainTerm = atom_leaf n in u) (number_in-more names more text (h refl))
-leaf_more names more text false h = refl
-
--- the atoms among tokens behind a leaf, and the leaf's
-leaf_held : (names atoms : Texts) (text : List ℕ) (b : Bool) → AllByRecursion (HasNumber names) (cond b (text ∷ atoms) atoms) → (b ≡ true → HasNumber names text) × AllByRecursion (HasNumber names) atoms
-leaf_held names atoms text true h = (λ _. h.0, h.1)
-leaf_held names atoms text false h = (λ e. absurd cc, h)
-
-built_more : (names more : Texts) (tokens : List Token) (terms : List PlainTerm) (outer : List (_ × List PlainTerm)) → AllByRecursion (HasNumber names) (atoms_among tokens) →
-    built integer_of (number_in (names ++ more)) tokens terms outer ≡ built integer_of (number_in names) tokens terms outer
-built_more names more [] terms outer h = refl
-built_more names more (opened b ∷ tokens) terms outer h = built_more names more tokens [] ((b, terms) ∷ outer) h
-built_more names more (shut ∷ tokens) terms outer h = built_more names more tokens (shut_terms terms outer) (without_top outer) h
-built_more names more (leaf text ∷ tokens) terms outer h =
-    let p = leaf_held names (atoms_among tokens) text (is_atom_text text) h in
-    built_more names more tokens (terms ++ leaf_of integer_of (number_in (names ++ more)) text ∷ []) outer p.1
-    ∙ ap (λ (t : PlainTerm). built integer_of (number_in names) tokens (terms ++ t ∷ []) outer) (leaf_more names more text (is_atom_text text) p.0)
-
--- what a text says whose atoms are held stays the same
-pub term_in-more : (names more : Texts) (text : List ℕ) → AllByRecursion (HasNumber names) (term_atoms text) → term_in (names ++ more) text ≡ term_in names text
-unfolding term_in term_atoms
-term_in-more names more text h = ap (λ ts. unwrap_or (top_of ts) (integer_leaf (pos 0))) (built_more names more (tokens_in false text) [] [] h)
-
 -- ---- their atoms
 
-mutual
-  -- the atoms of a form are texts of atoms
-  pub term_atoms_are : (t : TermOf (List ℕ) (List ℕ)) → is_term_form t ≡ true → are_atoms (atoms_of t) ≡ true
-  term_atoms_are (integer_leaf text) h = refl
-  term_atoms_are (atom_leaf text) h = and_from (is_atom_text text) true h refl
-  term_atoms_are (tuple_of row) h = row_atoms_are row h
-  term_atoms_are (list_of row) h = row_atoms_are row h
-
-  row_atoms_are : (row : RowOf (List ℕ) (List ℕ)) → is_row_form row ≡ true → are_atoms (row_atoms row) ≡ true
-  row_atoms_are no_terms h = refl
-  row_atoms_are (term_then t row) h =
-      let p = and_parts (is_term_form t) (is_row_form row) h in
-      both_atoms (atoms_of t) (row_atoms row) (term_atoms_are t p.0) (row_atoms_are row p.1)
-
+-- the atoms of forms are texts of atoms
 pub terms_atoms_are : (ts : List WrittenTerm) → list_all is_term_form ts ≡ true → are_atoms (flat_map atoms_of ts) ≡ true
 terms_atoms_are [] h = refl
 terms_atoms_are (t ∷ ts) h =
@@ -257,7 +175,7 @@ RowFits row = EachInRow (λ text. IsTermInteger (integer_of text)) (λ _. Unit {
 
 mutual
   -- a term with integers of 60 bits, whose atoms are held, is written as it was
-  pub term_again : (names : Texts) (t : TermOf (List ℕ) (List ℕ)) → is_term_form t ≡ true → IntegersFit t → AllByRecursion (HasNumber names) (atoms_of t) → argument_form names (argument_in names t) ≡ t
+  pub term_again : (names : Texts) (t : TermOf (List ℕ) (List ℕ)) → is_term_form t ≡ true → IntegersFit t → AllByRecursion (HasNumber names) (atoms_of t) → term_form names (argument_in names t) ≡ t
   term_again names (integer_leaf text) form fits held = ap (λ (t : List ℕ). let u : WrittenTerm = integer_leaf t in u) (sym (signed_decimal-integer_of text form fits))
   term_again names (atom_leaf text) form fits held = ap (λ (t : List ℕ). let u : WrittenTerm = atom_leaf t in u) (atom_again names text held.0)
   term_again names (tuple_of row) form fits held = ap (λ r. tuple_of r) (row_again names row form fits held)
@@ -275,13 +193,3 @@ mutual
 -- a term without an integer that is too wide has integers of 60 bits
 pub narrow_fits : (t : WrittenTerm) → is_some (outside_of t) ≡ false → IntegersFit t
 narrow_fits t h = fits_of_none t (none_by (outside_of t) h)
-
--- what a term's text says is written as the text
-pub text_again : (names : Texts) (text : List ℕ) → is_term_text text ≡ true → is_wide_text text ≡ false → AllByRecursion (HasNumber names) (term_atoms text) → term_text names (term_of (term_in names text)) ≡ text
-text_again names text form narrow held =
-    let is = tree_is text form in
-    let fits = narrow_fits (tree_of text) (sym is.wide ∙ narrow) in
-    let atoms = subst (AllByRecursion (HasNumber names)) is.atoms held in
-    ap (λ (t : PlainTerm). written (argument_form names t)) (plain-term_of (term_in names text) ∙ is.value names)
-    ∙ ap written (term_again names (tree_of text) (sound_form (tree_of text) is.is_text.leaves) fits atoms)
-    ∙ sym is.is_text.whole

@@ -1,11 +1,9 @@
 -- The lines of a module's text that follow on, so far or up to its end: their title, their names, and the module that they say.
-use Rattle.script_text.proofs.Common.{◌≡◌, ℕ, ◌≤◌, true, false, List, [], ◌∷◌, ◌++◌, length, Option, Some, None}
-use Rattle.script_text.proofs.Common.{is_none, option_map, refl, sym, ap, ◌∙◌, subst, append_assoc, Texts}
-use Rattle.script_text.proofs.Common.{append-nil, AllByRecursion}
+use Rattle.script_text.proofs.Common.{◌≡◌, ℕ, ◌≤◌, true, false, List, [], ◌∷◌, ◌++◌, length, Option, Some, None, is_none, option_map, refl, sym, ap}
+use Rattle.script_text.proofs.Common.{◌∙◌, subst, append_assoc, Texts, append-nil, AllByRecursion}
 use Rattle.script_text.proofs.Texts.{Extends, Extends-refl, Extends-trans, HasNumber}
-use Rattle.script_text.proofs.Modules.{IsModule, LineForm, title, end, line_written, lines_written, is_line_form}
-use Rattle.script_text.proofs.Modules.{may_follow, last_line, line_atoms, names_after, IsNext, title_of}
-use Rattle.script_text.proofs.Modules.{IsTitled, module_of, unsettled_line, FollowOn, names_behind, module_is_sound}
+use Rattle.script_text.proofs.Modules.{IsModule, LineForm, title, end, line_written, lines_written, is_line_form, may_follow, last_line, line_atoms}
+use Rattle.script_text.proofs.Modules.{names_after, IsNext, title_of, IsTitled, module_of, unsettled_line, FollowOn, names_behind, module_is_sound}
 use Rattle.script_text.proofs.Forms.{is_text_end, Known}
 use Rattle.script_text.proofs.FunctionNames.{home_after_line}
 use Rattle.script_text.proofs.HeldNames.{Extends-all, held_all, all_held_in}

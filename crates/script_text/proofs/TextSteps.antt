@@ -3,9 +3,9 @@ use Rattle.std.proofs.Common.{◌≡◌, ℕ, ◌+◌, ◌<◌, ◌≤◌, ◌==
 use Rattle.std.proofs.Common.{length, Option, Some, None, Result, Ok, Err, bytes_eq, codes, refl, sym, ap, ◌∙◌}
 use Rattle.std.proofs.Common.{subst, arith, length-append, ◌++◌, take, slice_get, IsTrue, append_assoc}
 use Rattle.script_text.proofs.Common.{IfSome, map, nat_tests, AllByRecursion, map-append, length-map, Texts}
-use Rattle.script_text.proofs.Texts.{cut_at, lines, before_lines, lines_of, cut_is, uncut_is}
-use Rattle.script_text.proofs.Texts.{lines_of_cut, lines_of_tail, last_line, all_lines}
-use Rattle.script_text.proofs.Modules.{is_end}
+use Rattle.script_text.proofs.Texts.{cut_at, lines, before_lines, lines_of_text, cut_is, uncut_is}
+use Rattle.script_text.proofs.Texts.{lines_of_cut, lines_of_tail, as_last_line, all_lines}
+use Rattle.script_text.proofs.Modules.{has_no_line}
 use Rattle.script_text.proofs.Types.{Script, ScriptFault, LineCause, Place, Within, ScriptReader}
 use Rattle.script_text.proofs.Forms.{ScriptLine, script_line_written, is_script_line, IsLine, ◌>>=◌}
 use Rattle.script_text.proofs.Forms.{FailsWith, GivesText, or_syntax, step, Known, steps, IsShort, Reaches}
@@ -43,17 +43,17 @@ judged_kept r number last text next h e = by_long (nat_lt 4096 (length text)) e
 pub some_length : {X : Type 0} (x : X) (xs : List X) → (length (x ∷ xs) == 0) ≡ false
 some_length x xs = grind (arith, nat_tests)
 
-pub end_test : (bytes : List ℕ) → is_end (lines_of bytes).ended (lines_of bytes).tail ≡ (length bytes == 0)
+pub end_test : (bytes : List ℕ) → has_no_line (lines_of_text bytes).ended (lines_of_text bytes).tail ≡ (length bytes == 0)
 end_test [] = refl
 end_test (b ∷ bytes) = by_line_feed (b == 10) ∙ sym (some_length b bytes)
   where
-    by_lines : (ended : Texts) (tail : List ℕ) → is_end (before_lines b ended tail).ended (before_lines b ended tail).tail ≡ false
+    by_lines : (ended : Texts) (tail : List ℕ) → has_no_line (before_lines b ended tail).ended (before_lines b ended tail).tail ≡ false
     by_lines [] tail = refl
     by_lines (line ∷ others) tail = refl
 
-    by_line_feed : (t : Bool) → (let ls = cond t (lines ([] ∷ (lines_of bytes).ended) (lines_of bytes).tail) (before_lines b (lines_of bytes).ended (lines_of bytes).tail) in is_end ls.ended ls.tail) ≡ false
+    by_line_feed : (t : Bool) → (let ls = cond t (lines ([] ∷ (lines_of_text bytes).ended) (lines_of_text bytes).tail) (before_lines b (lines_of_text bytes).ended (lines_of_text bytes).tail) in has_no_line ls.ended ls.tail) ≡ false
     by_line_feed true = refl
-    by_line_feed false = by_lines (lines_of bytes).ended (lines_of bytes).tail
+    by_line_feed false = by_lines (lines_of_text bytes).ended (lines_of_text bytes).tail
 
 -- ---- how far the reading is
 
@@ -129,12 +129,12 @@ written_length lines = length-map lines script_line_written
 -- these lines stand in front of a text, none is refused, and this is known with them; these texts with a line feed stand behind them
 pub record IsPrefix (text : List ℕ) (before : List ScriptLine) (known : Known) (texts : Texts) : Type 0 where
   pub short : length text ≤ 1048576
-  pub cut : (lines_of text).ended ≡ written before ++ texts
+  pub cut : (lines_of_text text).ended ≡ written before ++ texts
   pub sound : AllByRecursion (λ line. IsTrue (is_script_line line)) before
   pub short_lines : AllByRecursion IsShort before
   pub known_is : steps opening 1 before ≡ Ok known
 
-pub at_front : (text : List ℕ) → length text ≤ 1048576 → IsPrefix text [] opening (lines_of text).ended
+pub at_front : (text : List ℕ) → length text ≤ 1048576 → IsPrefix text [] opening (lines_of_text text).ended
 at_front text short = record { short = short; cut = refl; sound = tt; short_lines = tt; known_is = refl }
 
 -- the table of names has room there
@@ -172,10 +172,10 @@ one_more text before known next line texts form p is short e = record {
 
 module _ (text : List ℕ) (before : List ScriptLine) (known : Known) (texts : Texts) where
   -- the line behind them is reached
-  pub reaches : (more : Texts) (line : List ℕ) → IsPrefix text before known texts → texts ++ last_line (lines_of text).tail ≡ line ∷ more → Reaches text before known line
+  pub reaches : (more : Texts) (line : List ℕ) → IsPrefix text before known texts → texts ++ as_last_line (lines_of_text text).tail ≡ line ∷ more → Reaches text before known line
   reaches more line p e =
       let all : all_lines text ≡ written before ++ line ∷ more =
-      ap (λ (ls : Texts). ls ++ last_line (lines_of text).tail) p.cut ∙ append_assoc (written before) texts (last_line (lines_of text).tail) ∙ ap (λ (ls : Texts). written before ++ ls) e in
+      ap (λ (ls : Texts). ls ++ as_last_line (lines_of_text text).tail) p.cut ∙ append_assoc (written before) texts (as_last_line (lines_of_text text).tail) ∙ ap (λ (ls : Texts). written before ++ ls) e in
       record {
         short = p.short;
         before_are = record {
@@ -188,20 +188,20 @@ module _ (text : List ℕ) (before : List ScriptLine) (known : Known) (texts : T
       }
 
   -- how many lines there are
-  pub all_count : IsPrefix text before known texts → length (all_lines text) ≡ length before + (length texts + length (last_line (lines_of text).tail))
+  pub all_count : IsPrefix text before known texts → length (all_lines text) ≡ length before + (length texts + length (as_last_line (lines_of_text text).tail))
   all_count p =
-      let all : length (all_lines text) ≡ length ((written before ++ texts) ++ last_line (lines_of text).tail) = ap (λ (ls : Texts). length (ls ++ last_line (lines_of text).tail)) p.cut in
-      let sum : length ((written before ++ texts) ++ last_line (lines_of text).tail) ≡ length (written before) + (length texts + length (last_line (lines_of text).tail)) = simp length-append (omega arith) in
+      let all : length (all_lines text) ≡ length ((written before ++ texts) ++ as_last_line (lines_of_text text).tail) = ap (λ (ls : Texts). length (ls ++ as_last_line (lines_of_text text).tail)) p.cut in
+      let sum : length ((written before ++ texts) ++ as_last_line (lines_of_text text).tail) ≡ length (written before) + (length texts + length (as_last_line (lines_of_text text).tail)) = simp length-append (omega arith) in
       omega (arith, written_length before, all, sum)
 
-  pub ended_count : IsPrefix text before known texts → length (lines_of text).ended ≡ length before + length texts
+  pub ended_count : IsPrefix text before known texts → length (lines_of_text text).ended ≡ length before + length texts
   ended_count p =
-      let all : length (lines_of text).ended ≡ length (written before ++ texts) = ap (λ (ls : Texts). length ls) p.cut in
+      let all : length (lines_of_text text).ended ≡ length (written before ++ texts) = ap (λ (ls : Texts). length ls) p.cut in
       let sum : length (written before ++ texts) ≡ length (written before) + length texts = simp length-append (omega arith) in
       omega (arith, written_length before, all, sum)
 
 -- a text without lines has no bytes
-pub no_bytes : (text : List ℕ) → (lines_of text).ended ≡ [] → (lines_of text).tail ≡ [] → text ≡ []
+pub no_bytes : (text : List ℕ) → (lines_of_text text).ended ≡ [] → (lines_of_text text).tail ≡ [] → text ≡ []
 no_bytes [] e f = refl
 no_bytes (b ∷ bytes) e f = absurd (by_line_feed (b == 10) e f)
   where
@@ -209,6 +209,6 @@ no_bytes (b ∷ bytes) e f = absurd (by_line_feed (b == 10) e f)
     by_lines [] tail e f = cc
     by_lines (line ∷ others) tail e f = cc
 
-    by_line_feed : (t : Bool) → (let ls = cond t (lines ([] ∷ (lines_of bytes).ended) (lines_of bytes).tail) (before_lines b (lines_of bytes).ended (lines_of bytes).tail) in ls.ended ≡ []) → (let ls = cond t (lines ([] ∷ (lines_of bytes).ended) (lines_of bytes).tail) (before_lines b (lines_of bytes).ended (lines_of bytes).tail) in ls.tail ≡ []) → ⊥
+    by_line_feed : (t : Bool) → (let ls = cond t (lines ([] ∷ (lines_of_text bytes).ended) (lines_of_text bytes).tail) (before_lines b (lines_of_text bytes).ended (lines_of_text bytes).tail) in ls.ended ≡ []) → (let ls = cond t (lines ([] ∷ (lines_of_text bytes).ended) (lines_of_text bytes).tail) (before_lines b (lines_of_text bytes).ended (lines_of_text bytes).tail) in ls.tail ≡ []) → ⊥
     by_line_feed true e f = cc
-    by_line_feed false e f = by_lines (lines_of bytes).ended (lines_of bytes).tail e f
+    by_line_feed false e f = by_lines (lines_of_text bytes).ended (lines_of_text bytes).tail e f

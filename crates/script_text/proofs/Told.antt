@@ -1,9 +1,8 @@
 -- What lines tell of a script, move by move, where nothing is lacking: it is one, and its canonical lines name what they name.
 use Rattle.std.proofs.Common.{◌≡◌, ℕ, ◌+◌, ◌<◌, ◌≤◌, Bool, true, false, cond, List, [], ◌∷◌, ◌++◌, length, map, Option, Some}
 use Rattle.std.proofs.Common.{None, All, Ok, refl, sym, ap, ◌∙◌, subst, arith, append_assoc, append-nil, length-append}
-use Rattle.script_text.proofs.Common.{fold, sum_by, AllByRecursion, flat_map, list_any, or_parts, nat_tests}
-use Rattle.script_text.proofs.Common.{flat_map-append, map-append, All-nil, All-push, sum_by-append, Texts}
-use Rattle.script_text.proofs.Common.{sum_by-cons}
+use Rattle.script_text.proofs.Common.{fold, sum_by, AllByRecursion, flat_map, list_any, or_parts, nat_tests, flat_map-append, map-append, All-nil}
+use Rattle.script_text.proofs.Common.{All-push, sum_by-append, Texts, sum_by-cons}
 use Rattle.script_text.proofs.Types.{Mfa, Module, ModRef, ScriptCmd, Place, Between, Within, Observing, Loading, Finished}
 use Rattle.script_text.proofs.Texts.{IsNames, Extends, number_value, names_with_all, Extends-refl}
 use Rattle.script_text.proofs.Texts.{Extends-trans, given_names-IsNames, each_append, lacks}
@@ -12,11 +11,9 @@ use Rattle.script_text.proofs.Modules.{IsNext, LineForm, title, line_written, is
 use Rattle.script_text.proofs.Modules.{names_behind, title_of, IsTitled, module_of, unsettled_line, spawns_in, spawn_count}
 use Rattle.mod_text.specs.Canonical.{canonical as module_lines}
 use Rattle.mod_text.proofs.ModuleHeld.{module_held, some_names, sound_lines}
-use Rattle.script_text.proofs.Forms.{RefForm, ScriptLine, head, code, observer, loader, go, script_line_written}
-use Rattle.script_text.proofs.Forms.{is_script_line, onto_last, script_line_atoms, ref_in, commands_on}
-use Rattle.script_text.proofs.Forms.{command_line, block_form, code_form, or_else, is_same_mod_ref, is_among}
-use Rattle.script_text.proofs.Forms.{Known, opening, is_text_end, closed_by, processes_with, spawned_in}
-use Rattle.script_text.proofs.Forms.{loads_given, step, steps, counted_added}
+use Rattle.script_text.proofs.Forms.{RefForm, ScriptLine, head, code, observer, loader, go, script_line_written, is_script_line, onto_last}
+use Rattle.script_text.proofs.Forms.{script_line_atoms, ref_in, commands_on, command_line, block_form, code_form, or_else, is_same_mod_ref, is_among}
+use Rattle.script_text.proofs.Forms.{Known, opening, is_text_end, closed_by, processes_with, spawned_in, loads_given, step, steps, counted_added}
 use Rattle.script_text.proofs.FunctionNames.{line_functions, script_line_functions, home_of, home_of-append}
 use Rattle.script_text.proofs.FunctionNames.{functions_named, mfas_on, mfas_on-line, added_is, counted_line, counted_command}
 use Rattle.script_text.proofs.Alike.{Alike, lines_same, lines_then, lines_back, lines_append}

@@ -2,14 +2,12 @@
 -- label is `lN` by the place that it names, and stands only where some instruction goes; nothing else of the script's text is changed.
 -- Source: this project's script text. The code appends to a buffer, and tries the limits on what it has written.
 use Rattle.std.specs.Prelude.{ℕ, ◌<◌, ◌⊎◌, nat_lt, Bool, List, [], ◌∷◌, ◌++◌, map, length, IsTrue}
-use Rattle.std.specs.Fmt.{decimal, signed_decimal}
+use Rattle.std.specs.Fmt.{decimal}
 use Rattle.std.specs.List.{flat_map, list_any}
 use Rattle.term_core.specs.Plain.{plain}
-use Rattle.term_core.specs.PlainTerm.{PlainTerm, map_leaves}
 use Rattle.term_core.specs.TermText.{atom_text}
-use Rattle.term_core.specs.Written.{WrittenTerm}
 use Rattle.mod_text.specs.ModuleLine.{LineForm}
-use Rattle.mod_text.specs.Canonical.{canonical as module_lines}
+use Rattle.mod_text.specs.Canonical.{canonical as module_lines, term_form}
 use Rattle.server_core.specs.declared.command.ModRef.{ModRef}
 use Rattle.script_core.specs.declared.script.TheConstants.{LONGEST_SCRIPT, LONGEST_LINE}
 use Rattle.script_core.specs.declared.script.ScriptCmd.{ScriptCmd}
@@ -17,7 +15,7 @@ use Rattle.script_core.specs.declared.script.ScriptCmd.TheVariants.{Load, Delete
 use Rattle.script_core.specs.declared.script.Script.{Script}
 use Rattle.script_text.specs.ScriptLine.{RefForm, delete, soft_purge, purge, check_old, erase, ScriptLine, head, code, observer, loader, load, on_atom, put, trace, spawn, go, script_line_written}
 use Rattle.script_text.specs.ScriptText.{ScriptText}
-use Rattle.term_core.specs.Text.Parts.{lines_of}
+use Rattle.term_core.specs.Text.Parts.{lines_of_text}
 
 -- the script is the value of some text
 pub record IsOfSomeText (s : Script) : Type 0 where
@@ -30,10 +28,6 @@ pub record IsOfSomeText (s : Script) : Type 0 where
 abbrev pub ref_form : List (List ℕ) → ModRef → RefForm
 ref_form names r = record { name = atom_text names r.name.0; version = decimal r.version }
 
--- a term, with the texts of its integers and atoms
-abbrev pub argument_form : List (List ℕ) → PlainTerm → WrittenTerm
-argument_form names term = map_leaves signed_decimal (atom_text names) term
-
 -- the line of a command
 abbrev pub command_line : List (List ℕ) → ScriptCmd → ScriptLine
 command_line names (Load refs) = load (map (ref_form names) refs)
@@ -41,10 +35,10 @@ command_line names (Delete m) = on_atom delete (atom_text names m.0)
 command_line names (SoftPurge m) = on_atom soft_purge (atom_text names m.0)
 command_line names (Purge m) = on_atom purge (atom_text names m.0)
 command_line names (CheckOld m) = on_atom check_old (atom_text names m.0)
-command_line names (Put key term) = put (atom_text names key.0) (argument_form names (plain term))
+command_line names (Put key term) = put (atom_text names key.0) (term_form names (plain term))
 command_line names (Erase key) = on_atom erase (atom_text names key.0)
 command_line names (Trace target on) = trace (atom_text names target.«module».0) (atom_text names target.name.0) (decimal target.arity) on
-command_line names (Spawn target args) = spawn (atom_text names target.«module».0) (atom_text names target.name.0) (map (argument_form names) args)
+command_line names (Spawn target args) = spawn (atom_text names target.«module».0) (atom_text names target.name.0) (map (term_form names) args)
 
 -- the lines of a loader block
 abbrev pub block_form : List (List ℕ) → List ScriptCmd → List ScriptLine
@@ -93,7 +87,7 @@ is_long_line line = nat_lt LONGEST_LINE (length line)
 
 -- a text, or a line of it, has more bytes than a script's may have
 abbrev pub IsTooLong : List ℕ → Type 0
-IsTooLong text = (LONGEST_SCRIPT < length text) ⊎ IsTrue (list_any is_long_line (lines_of text).ended)
+IsTooLong text = (LONGEST_SCRIPT < length text) ⊎ IsTrue (list_any is_long_line (lines_of_text text).ended)
 
 -- the canonical text of a script is too long to be a script's text
 abbrev pub IsTooLongToPrint : Script → Type 0

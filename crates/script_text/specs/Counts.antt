@@ -19,5 +19,5 @@ script_line_atoms (spawn «module» name args) = «module» ∷ name ∷ flat_ma
 script_line_atoms line = []
 
 -- the names after lines, in the order of their first appearance, behind the three given ones
-abbrev pub names_of : List ScriptLine → List (List ℕ)
-names_of lines = names_with_all given_names (flat_map script_line_atoms lines)
+abbrev pub counted_names : List ScriptLine → List (List ℕ)
+counted_names lines = names_with_all given_names (flat_map script_line_atoms lines)

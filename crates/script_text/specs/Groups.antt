@@ -5,4 +5,4 @@ use Rattle.std.specs.Prelude.{List, [], ◌∷◌, ◌++◌}
 abbrev pub onto_last : {X : Type 0} → List (List X) → X → List (List X)
 onto_last [] x = (x ∷ []) ∷ []
 onto_last (group ∷ []) x = (group ++ x ∷ []) ∷ []
-onto_last (group ∷ next ∷ groups) x = group ∷ onto_last (next ∷ groups) x
+onto_last (group ∷ other ∷ groups) x = group ∷ onto_last (other ∷ groups) x

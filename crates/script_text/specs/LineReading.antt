@@ -9,8 +9,8 @@ use Rattle.term_core.specs.Written.{WrittenTerm, is_integer_text}
 use Rattle.mod_core.specs.declared.code.TheConstants.{MOST_ARGUMENTS}
 use Rattle.term_core.specs.Text.Numbers.{number_value}
 use Rattle.mod_text.specs.ModuleLine.{is_version_text, is_arity_text}
-use Rattle.term_core.specs.Text.Steps.{◌>>=◌, tested, numbered_reading}
-use Rattle.term_core.specs.Text.Parts.{cut_at, parts_of, each_reading}
+use Rattle.term_core.specs.Text.Steps.{◌>>=◌, text_tested, numbered_reading}
+use Rattle.term_core.specs.Text.Parts.{cut_at, parts_between, each_reading}
 use Rattle.term_core.specs.Text.Words.{switch_reading}
 use Rattle.mod_text.specs.Sides.{paired}
 use Rattle.script_text.specs.ScriptLine.{RefForm, AtomCommand, delete, soft_purge, purge, check_old, erase, is_snapshots_text}
@@ -21,11 +21,11 @@ snapshots_reading text = if is_snapshots_text text then Some (number_value text)
 
 -- a module and a version with a dot between them
 abbrev pub ref_reading : List ℕ → Option RefForm
-ref_reading text = paired 46 (tested is_atom_text) (tested is_version_text) text >>= λ p. Some (record { name = p.0; version = p.1 })
+ref_reading text = paired 46 (text_tested is_atom_text) (text_tested is_version_text) text >>= λ p. Some (record { name = p.0; version = p.1 })
 
 -- the modules of a load
 abbrev pub refs_reading : List ℕ → Option (List RefForm)
-refs_reading text = each_reading ref_reading (parts_of 32 text)
+refs_reading text = each_reading ref_reading (parts_between 32 text)
 
 -- the command of one atom that a word names
 abbrev pub command_reading : List ℕ → Option AtomCommand
@@ -45,7 +45,7 @@ pub record TraceForm : Type 0 where
 
 -- a function of a module
 abbrev pub target_reading : List ℕ → Option (List ℕ × (List ℕ × List ℕ))
-target_reading text = paired 58 (tested is_atom_text) (numbered_reading 47 is_arity_text) text
+target_reading text = paired 58 (text_tested is_atom_text) (numbered_reading 47 is_arity_text) text
 
 -- a breakpoint that is set or taken away, behind the word of its line
 abbrev pub trace_reading : List ℕ → Option TraceForm
@@ -56,7 +56,7 @@ abbrev pub argument_reading : List ℕ → Option WrittenTerm
 argument_reading text =
     if is_atom_text text then Some (atom_leaf text)
     else (if is_integer_text text then Some (integer_leaf text)
-    else option_map tree_of (tested is_complex_text text))
+    else option_map tree_of (text_tested is_complex_text text))
 
 -- a put, as it is written
 pub record PutForm : Type 0 where
@@ -65,7 +65,7 @@ pub record PutForm : Type 0 where
 
 -- the key and the term of a put, behind its word
 abbrev pub put_reading : List ℕ → Option PutForm
-put_reading text = paired 32 (tested is_atom_text) argument_reading text >>= λ p. Some (record { key = p.0; term = p.1 })
+put_reading text = paired 32 (text_tested is_atom_text) argument_reading text >>= λ p. Some (record { key = p.0; term = p.1 })
 
 -- the arguments of a call, without their brackets: they are parted at the commas that are outside of all brackets
 abbrev pub arguments_reading : List ℕ → Option (List WrittenTerm)
@@ -85,11 +85,11 @@ closed_arguments parts = do
 
 -- the name of a function and its arguments
 abbrev pub applied_reading : List ℕ → Option (List ℕ × List WrittenTerm)
-applied_reading text = paired 40 (tested is_atom_text) (λ rest. cut_at 41 rest >>= closed_arguments) text
+applied_reading text = paired 40 (text_tested is_atom_text) (λ rest. cut_at 41 rest >>= closed_arguments) text
 
 -- the call of a spawn
 abbrev pub call_reading : List ℕ → Option CallForm
-call_reading text = paired 58 (tested is_atom_text) applied_reading text >>= λ p. Some (record { «module» = p.0; name = p.1.0; args = p.1.1 })
+call_reading text = paired 58 (text_tested is_atom_text) applied_reading text >>= λ p. Some (record { «module» = p.0; name = p.1.0; args = p.1.1 })
 
 -- the module and version of a title, behind its word
 abbrev pub titled : Option (List ℕ × List ℕ) → Option RefForm

@@ -207,7 +207,7 @@ step s number line = step_at s number s.place line
 -- what is known with lines, of which the first has this number
 abbrev pub steps : Known → ℕ → List ScriptLine → Result Known LineCause
 steps s number [] = Ok s
-steps s number (line ∷ lines) = step s number line >>= λ next. steps next (number + 1) lines
+steps s number (line ∷ lines) = step s number line >>= λ known. steps known (number + 1) lines
 
 -- ---- a script
 

@@ -77,8 +77,8 @@ is_long_word (atom text) = false
 is_long_word (complex text) = nat_lt MOST_WORDS (text_words text)
 
 -- the key of a put, its term, and the names after them
-unfoldable pub key_named : List (List ℕ) → PutWords → Result (ℕ × PlainTerm × List (List ℕ)) LineCause
-key_named names p = do
+unfoldable pub key_with_term : List (List ℕ) → PutWords → Result (ℕ × PlainTerm × List (List ℕ)) LineCause
+key_with_term names p = do
   key ← atom_named names p.key
   term ← argument_named key.1 p.term
   Ok (key.0, term.0, term.1)
@@ -87,7 +87,7 @@ key_named names p = do
 abbrev pub put_named : List (List ℕ) → PutWords → Result (ℕ × PlainTerm × List (List ℕ)) LineCause
 put_named names p =
     if is_wide_word p.term then Err (causes.Limit which.Integer)
-    else (if is_long_word p.term then Err (causes.Limit which.Term) else key_named names p)
+    else (if is_long_word p.term then Err (causes.Limit which.Term) else key_with_term names p)
 
 -- the target of a call, its arguments, and the names after them
 unfoldable pub target_named : List (List ℕ) → CallWords → Result (Mfa × List PlainTerm × List (List ℕ)) LineCause

@@ -10,7 +10,7 @@ use Rattle.mod_text.specs.ModuleLine.{LineForm}
 use Rattle.mod_text.specs.LineFaults.{counted_of}
 use Rattle.term_core.specs.Text.Cuts.{cut_at}
 use Rattle.mod_text.specs.ModuleValue.{IsTitled}
-use Rattle.mod_text.specs.Reading.{Step, line_step, is_end}
+use Rattle.mod_text.specs.Reading.{Step, line_step, has_no_line}
 use Rattle.server_core.specs.declared.command.ModRef.{ModRef}
 use Rattle.script_core.specs.declared.script.TheConstants.{LONGEST_SCRIPT, LONGEST_LINE, MOST_OBSERVERS}
 use Rattle.script_core.specs.declared.script.ScriptCmd.{ScriptCmd}
@@ -34,7 +34,7 @@ use Rattle.script_text.specs.Naming.{or_syntax, atom_named, refs_named, put_name
 use Rattle.script_text.specs.Causes.{◌>>=◌, fault_at}
 use Rattle.script_text.specs.Sets.{mfa_added, is_among, ref_added}
 use Rattle.script_text.specs.Adding.{counted_added}
-use Rattle.term_core.specs.Text.Parts.{lines_of}
+use Rattle.term_core.specs.Text.Parts.{lines_of_text}
 
 -- ---- the head and the module texts
 
@@ -218,11 +218,11 @@ go_on (Err fault) more = Err fault
 -- the lines from the one of this number on
 abbrev pub text_on : ScriptReader → ℕ → List (List ℕ) → List ℕ → Result Script ScriptFault
 text_on s number [] tail = text_ended s number tail
-text_on s number (text ∷ others) tail = go_on (line_judged s number (is_end others tail) text) (λ next. text_on next (number + 1) others tail)
+text_on s number (text ∷ others) tail = go_on (line_judged s number (has_no_line others tail) text) (λ next. text_on next (number + 1) others tail)
 
 -- the same for bytes
 abbrev pub bytes_on : ScriptReader → ℕ → List ℕ → Result Script ScriptFault
-bytes_on s number bytes = text_on s number (lines_of bytes).ended (lines_of bytes).tail
+bytes_on s number bytes = text_on s number (lines_of_text bytes).ended (lines_of_text bytes).tail
 
 -- a whole text
 abbrev pub script_reading : List ℕ → Result Script ScriptFault

@@ -3,12 +3,12 @@
 use Rattle.std.specs.Prelude.{◌≡◌, ℕ, ◌&&◌, nat_le, Bool, true, false, List, [], ◌∷◌, ◌++◌, length, IsTrue, codes}
 use Rattle.std.specs.List.{list_all, flat_map}
 use Rattle.term_core.specs.Names.{is_atom_text}
-use Rattle.term_core.specs.PlainTerm.{TermOf, RowOf, integer_leaf, atom_leaf, tuple_of, list_of, no_terms, term_then, row_of}
-use Rattle.term_core.specs.Written.{WrittenTerm, written, parted, is_integer_text}
+use Rattle.term_core.specs.PlainTerm.{row_of}
+use Rattle.term_core.specs.Written.{WrittenTerm, written, parted}
 use Rattle.mod_core.specs.declared.code.TheConstants.{MOST_ARGUMENTS}
 use Rattle.term_core.specs.Text.Numbers.{is_number_text, number_value}
 use Rattle.term_core.specs.Text.Words.{switch_word}
-use Rattle.mod_text.specs.ModuleLine.{LineForm, parted_by, spaced, function_written, line_written, is_line_form, is_function_form, is_version_text}
+use Rattle.mod_text.specs.ModuleLine.{LineForm, parted_by, spaced, function_written, line_written, is_term_form, is_line_form, is_function_form, is_version_text}
 use Rattle.script_core.specs.declared.script.TheConstants.{MOST_SNAPSHOTS}
 
 -- a version of a module, as it is written: its name, and the digits of the version
@@ -81,19 +81,6 @@ is_ref_form r = is_atom_text r.name && is_version_text r.version
 abbrev pub are_some_refs : List RefForm → Bool
 are_some_refs [] = false
 are_some_refs (r ∷ refs) = list_all is_ref_form (r ∷ refs)
-
--- a term, each leaf of which has its text; its integers may be of any size
-abbrev mutual
-  pub is_term_form : TermOf (List ℕ) (List ℕ) → Bool
-  is_term_form (integer_leaf text) = is_integer_text text
-  is_term_form (atom_leaf text) = is_atom_text text
-  is_term_form (tuple_of row) = is_row_form row
-  is_term_form (list_of row) = is_row_form row
-
-  -- the same of a row
-  pub is_row_form : RowOf (List ℕ) (List ℕ) → Bool
-  is_row_form no_terms = true
-  is_row_form (term_then t row) = is_term_form t && is_row_form row
 
 -- a number from 1 to 16
 abbrev pub is_snapshots_text : List ℕ → Bool

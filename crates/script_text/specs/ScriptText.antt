@@ -2,7 +2,7 @@
 -- Source: this project's script text. The definitions take the lines of the whole text; the code reads line after line.
 use Rattle.std.specs.Prelude.{◌≡◌, ℕ, ◌+◌, ◌<◌, ◌≤◌, ◌⊎◌, List, [], map, length, take, slice_get, Some, None, Ok, Err, IsTrue, codes}
 use Rattle.std.specs.List.{AllByRecursion}
-use Rattle.term_core.specs.Text.Parts.{lines_of, all_lines}
+use Rattle.term_core.specs.Text.Parts.{lines_of_text, all_lines}
 use Rattle.script_core.specs.declared.script.TheConstants.{LONGEST_SCRIPT, LONGEST_LINE}
 use Rattle.script_core.specs.declared.script.Script.{Script}
 use Rattle.script_text.specs.declared.fault.ScriptFault.{ScriptFault}
@@ -27,8 +27,8 @@ pub record AreLines (texts : List (List ℕ)) (lines : List ScriptLine) (known :
 -- the lines of a whole script, and what is known with them: `go` is the last, and nothing stands behind it
 pub record AreAllLines (text : List ℕ) (lines : List ScriptLine) (known : Known) : Type 0 where
   pub short : length text ≤ LONGEST_SCRIPT
-  pub lines_are : AreLines (lines_of text).ended lines known
-  pub nothing_more : (lines_of text).tail ≡ []
+  pub lines_are : AreLines (lines_of_text text).ended lines known
+  pub nothing_more : (lines_of_text text).tail ≡ []
   pub finished : known.place ≡ Finished
 
 -- the bytes are the text of this script: none of its lines is refused, each module that is loaded is given, each label and each
@@ -43,14 +43,14 @@ pub record ScriptText (text : List ℕ) (s : Script) : Type 0 where
 -- this is the text of a line of the script, ended or not; none of the lines before it is refused, and this is known with them
 pub record Reaches (text : List ℕ) (before : List ScriptLine) (known : Known) (line : List ℕ) : Type 0 where
   pub short : length text ≤ LONGEST_SCRIPT
-  pub before_are : AreLines (take (length before) (lines_of text).ended) before known
+  pub before_are : AreLines (take (length before) (lines_of_text text).ended) before known
   pub line_at : slice_get (all_lines text) (length before) ≡ Some line
 
 -- why a line of at most 4,096 bytes is no line of a script at its place: it has no line feed; or the text ends with it, and it
 -- does not end the script; or, whatever its form, it may not stand there
 abbrev pub IsMisplaced : List ℕ → List ScriptLine → Known → List ℕ → Type 0
 IsMisplaced text before known line =
-    (length (lines_of text).ended ≡ length before)
+    (length (lines_of_text text).ended ≡ length before)
     ⊎ (((length (all_lines text) ≡ length before + 1) × (line ≡ codes "go" → ⊥))
     ⊎ ((form : ScriptLine) → IsLine line form → step known (length before + 1) form ≡ Err causes.Syntax))
 
@@ -82,7 +82,7 @@ pub record FaultyAt (text : List ℕ) (number : ℕ) (cause : LineCause) : Type 
   pub number_is : number ≡ length before + 1
   pub short : length line ≤ LONGEST_LINE
   pub more : length before + 1 < length (all_lines text)
-  pub ended : length before < length (lines_of text).ended
+  pub ended : length before < length (lines_of_text text).ended
   pub form : ScriptLine
   pub form_is : IsLine line form
   pub cause_is : step known (length before + 1) form ≡ Err cause

@@ -32,8 +32,8 @@ kept_word words.CheckOld = check_old
 kept_word words.Erase = erase
 
 -- a function: the text of its name, and the number of its arity
-abbrev pub function_words : List ℕ × List ℕ → List ℕ × ℕ
-function_words f = (f.0, number_value f.1)
+abbrev pub function_written_words : List ℕ × List ℕ → List ℕ × ℕ
+function_written_words f = (f.0, number_value f.1)
 
 -- a breakpoint: the texts of its names, and the number of the arity
 pub record TraceWords : Type 0 where

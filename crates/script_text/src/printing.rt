@@ -8,7 +8,7 @@ ghost use Rattle.term_core.specs.Plain.{plain};
 ghost use Rattle.term_core.specs.PlainTerm.{row_of};
 ghost use Rattle.term_core.specs.TermText.{atom_text, term_text};
 ghost use Rattle.term_core.specs.Written.{parted};
-ghost use Rattle.mod_text.specs.Canonical.{canonical as module_lines};
+ghost use Rattle.mod_text.specs.Canonical.{canonical as module_lines, term_form};
 ghost use Rattle.mod_core.specs.HeldNames.{IsModuleHeld};
 ghost use Rattle.mod_core.specs.Module.{IsModule};
 ghost use Rattle.mod_text.specs.ModuleLine.{spaced, function_written, lines_written};
@@ -16,8 +16,8 @@ ghost use Rattle.script_core.specs.declared.script.Script.{Script as ScriptValue
 ghost use Rattle.term_core.specs.Text.Words.{switch_word};
 ghost use Rattle.script_text.specs.ScriptLine.{ref_written, trace_written, call_written, script_line_written, load};
 ghost use Rattle.script_text.specs.ScriptText.{ScriptText};
-ghost use Rattle.term_core.specs.Text.Parts.{lines_of};
-ghost use Rattle.script_text.specs.Canonical.{IsOfSomeText, ref_form, argument_form, command_line, observer_bytes, block_bytes, canonical_text, is_long_line, IsTooLong, IsTooLongToPrint};
+ghost use Rattle.term_core.specs.Text.Parts.{lines_of_text};
+ghost use Rattle.script_text.specs.Canonical.{IsOfSomeText, ref_form, command_line, observer_bytes, block_bytes, canonical_text, is_long_line, IsTooLong, IsTooLongToPrint};
 
 use crate::fault::PrintFault;
 use mod_core::Module;
@@ -60,7 +60,7 @@ pub fn canonical_script_reads_back()
 
 /// Whether a line of the text is too long.
 fn has_long_line(text: &[u8]) -> bool
-    ensures { result ≡ list_any is_long_line (lines_of text.now).ended }
+    ensures { result ≡ list_any is_long_line (lines_of_text text.now).ended }
 {
     let mut rest = text;
     'lines: while let Some((line, behind)) = cut_at(rest, b'\n') {
@@ -263,7 +263,7 @@ fn write_spawn(
     args: &TermList,
     out: &mut ByteList,
 ) -> Result<(), NoMemory>
-    ensures ok { OnOk result (out.new ≡ out.old ++ (codes "spawn " ++ call_written (atom_text names.now target.«module».0) (atom_text names.now target.name.0) (map (argument_form names.now) args.now))) }
+    ensures ok { OnOk result (out.new ≡ out.old ++ (codes "spawn " ++ call_written (atom_text names.now target.«module».0) (atom_text names.now target.name.0) (map (term_form names.now) args.now))) }
     ensures kept { StartsWith out.new out.old }
 {
     out.extend_from_slice(b"spawn ")?;
@@ -277,7 +277,7 @@ fn write_spawn(
 
 /// Terms with a comma between them.
 fn write_terms(names: &Names, terms: &[Term], out: &mut ByteList) -> Result<(), NoMemory>
-    ensures ok { OnOk result (out.new ≡ out.old ++ parted (row_of (map (argument_form names.now) (map plain terms.now)))) }
+    ensures ok { OnOk result (out.new ≡ out.old ++ parted (row_of (map (term_form names.now) (map plain terms.now)))) }
     ensures kept { StartsWith out.new out.old }
 {
     let Some((first, others)) = terms.split_first() else {

@@ -1,7 +1,7 @@
 //! The entries of a report's log.
 
 ghost use Rattle.std.specs.Prelude.{◌≡◌};
-ghost use Rattle.report_text.specs.WordReading.{Reads};
+ghost use Rattle.report_text.specs.WordReading.{ReadsWord};
 ghost use Rattle.report_text.specs.Taking.{count_after, entry_taken};
 
 use crate::line_fault::LineFault;
@@ -20,7 +20,7 @@ fn count_after(left: u64, published: Option<u64>) -> Option<u64>
 
 /// The state behind an `entry` line.
 pub fn take_entry(mut log: RunLog, stage: Stage, entry: Entry) -> Result<ReportState, LineFault>
-    ensures { Reads (λ state. state) result (entry_taken log stage entry) }
+    ensures { ReadsWord (λ state. state) result (entry_taken log stage entry) }
 {
     match stage {
         Stage::Entries(left) => {

@@ -1,7 +1,7 @@
 //! The observers of a report's log: their snapshots and exports.
 
 ghost use Rattle.std.specs.Prelude.{◌≡◌, IfOk};
-ghost use Rattle.report_text.specs.WordReading.{Reads};
+ghost use Rattle.report_text.specs.WordReading.{ReadsWord};
 ghost use Rattle.report_text.specs.Taking.{shots_closed, observers_closed, observer_taken, snapshot_taken, export_taken};
 
 use crate::line_fault::LineFault;
@@ -26,7 +26,7 @@ fn shots_closed(
 
 /// The log where an observer may begin, or the report end: with the observer that went on, if there is one.
 pub fn observers_closed(log: RunLog, stage: Stage) -> Result<RunLog, LineFault>
-    ensures { Reads (λ closed. closed) result (observers_closed log stage) }
+    ensures { ReadsWord (λ closed. closed) result (observers_closed log stage) }
 {
     match stage {
         Stage::Entries(left) if left == 0 => Ok(log),
@@ -43,7 +43,7 @@ pub fn take_observer(
     stage: Stage,
     number: u64,
 ) -> Result<ReportState, LineFault>
-    ensures { Reads (λ state. state) result (observer_taken log stage number) }
+    ensures { ReadsWord (λ state. state) result (observer_taken log stage number) }
 {
     let log = observers_closed(log, stage)?;
     if number != log.observers.len() as u64 {
@@ -59,7 +59,7 @@ pub fn take_snapshot(
     stage: Stage,
     generation: u64,
 ) -> Result<ReportState, LineFault>
-    ensures { Reads (λ state. state) result (snapshot_taken log stage generation) }
+    ensures { ReadsWord (λ state. state) result (snapshot_taken log stage generation) }
 {
     match stage {
         Stage::Observer(shots, going) => {
@@ -82,7 +82,7 @@ pub fn take_export(
     function: Mfa,
     serial: u64,
 ) -> Result<ReportState, LineFault>
-    ensures { Reads (λ state. state) result (export_taken log stage function serial) }
+    ensures { ReadsWord (λ state. state) result (export_taken log stage function serial) }
 {
     match stage {
         Stage::Observer(shots, going) => match going {

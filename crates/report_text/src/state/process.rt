@@ -1,8 +1,8 @@
 //! The processes of a report's log: their spans, lines and ends.
 
 ghost use Rattle.std.specs.Prelude.{◌≡◌, IfOk};
-ghost use Rattle.report_text.specs.WordReading.{Reads};
-ghost use Rattle.report_text.specs.Taking.{may_begin, may_follow, with_going, spans_closed, process_taken, span_taken, shown_taken, end_taken};
+ghost use Rattle.report_text.specs.WordReading.{ReadsWord};
+ghost use Rattle.report_text.specs.Taking.{may_begin, span_may_follow, with_going, spans_closed, process_taken, span_taken, shown_taken, end_taken};
 
 use crate::line_fault::LineFault;
 use crate::state::{ReportState, Stage, at};
@@ -31,7 +31,7 @@ pub fn take_process(
     target: Mfa,
     args: TermList,
 ) -> Result<ReportState, LineFault>
-    ensures { Reads (λ state. state) result (process_taken log stage number target args) }
+    ensures { ReadsWord (λ state. state) result (process_taken log stage number target args) }
 {
     if !may_begin(&stage) || number != log.processes.len() as u64 {
         return Err(LineFault::Form);
@@ -70,7 +70,7 @@ fn spans_closed(mut process: ProcessLog, going: Option<Span>) -> Result<ProcessL
 
 /// Whether a span has a turn, and another generation than the one before it.
 fn may_follow(going: &Option<Span>, generation: u64, turns: u64) -> bool
-    ensures { result ≡ may_follow going.now generation turns }
+    ensures { result ≡ span_may_follow going.now generation turns }
 {
     match going {
         None => turns > 0,
@@ -86,7 +86,7 @@ pub fn take_span(
     generation: u64,
     turns: u64,
 ) -> Result<ReportState, LineFault>
-    ensures { Reads (λ state. state) result (span_taken log stage generation turns) }
+    ensures { ReadsWord (λ state. state) result (span_taken log stage generation turns) }
 {
     match stage {
         Stage::Process(process, going) => {
@@ -107,7 +107,7 @@ pub fn take_span(
 
 /// The state behind the line of a print or of a traced call.
 pub fn take_shown(log: RunLog, stage: Stage, line: Line) -> Result<ReportState, LineFault>
-    ensures { Reads (λ state. state) result (shown_taken log stage line) }
+    ensures { ReadsWord (λ state. state) result (shown_taken log stage line) }
 {
     match stage {
         Stage::Process(process, going) => match going {
@@ -123,7 +123,7 @@ pub fn take_shown(log: RunLog, stage: Stage, line: Line) -> Result<ReportState, 
 
 /// The state behind an `end` line.
 pub fn take_end(mut log: RunLog, stage: Stage, fin: End) -> Result<ReportState, LineFault>
-    ensures { Reads (λ state. state) result (end_taken log stage fin) }
+    ensures { ReadsWord (λ state. state) result (end_taken log stage fin) }
 {
     match stage {
         Stage::Process(process, going) => {

@@ -6,11 +6,11 @@ ghost use Rattle.term_core.specs.TermForms.{is_complex_text};
 ghost use Rattle.term_core.specs.TermParts.{parts_of_terms};
 ghost use Rattle.mod_text.specs.ModuleLine.{is_arity_text};
 ghost use Rattle.term_core.specs.Text.Parts.{each_reading};
-ghost use Rattle.term_core.specs.Text.Steps.{tested, numbered_reading};
+ghost use Rattle.term_core.specs.Text.Steps.{text_tested, numbered_reading};
 ghost use Rattle.script_text.specs.Causes.{Gives};
 ghost use Rattle.script_text.specs.LineReading.{ref_reading, refs_reading, command_reading, put_reading, trace_reading, argument_reading, arguments_reading, closed_arguments, call_reading, title_reading};
 ghost use Rattle.script_text.specs.Naming.{or_syntax};
-ghost use Rattle.script_text.specs.WrittenLine.{ref_words, kept_ref, kept_word, function_words, trace_words, kept_trace, argument_words, is_sound_word, kept_argument, put_words, kept_put, call_words, kept_call};
+ghost use Rattle.script_text.specs.WrittenLine.{ref_words, kept_ref, kept_word, function_written_words, trace_words, kept_trace, argument_words, is_sound_word, kept_argument, put_words, kept_put, call_words, kept_call};
 
 use crate::reading::cause::LineCause;
 use crate::reading::words::integer_of;
@@ -25,7 +25,7 @@ use term_core::{
 };
 
 fn read_atom(text: &[u8]) -> Option<&[u8]>
-    ensures { option_map (λ name. name.now) result ≡ tested is_atom text.now }
+    ensures { option_map (λ name. name.now) result ≡ text_tested is_atom text.now }
 {
     if is_atom_text(text) { Some(text) } else { None }
 }
@@ -81,7 +81,7 @@ pub fn read_word(word: &[u8]) -> Option<AtomWord>
 
 /// A function's name and arity, as `main/0`.
 fn read_function(text: &[u8]) -> Option<(&[u8], u32)>
-    ensures { option_map (λ p. (p.0.now, p.1)) result ≡ option_map function_words (numbered_reading 47 is_arity_text text.now) }
+    ensures { option_map (λ p. (p.0.now, p.1)) result ≡ option_map function_written_words (numbered_reading 47 is_arity_text text.now) }
 {
     let (name, digits) = cut_at(text, b'/')?;
     let name = read_atom(name)?;

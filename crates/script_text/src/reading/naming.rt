@@ -5,7 +5,7 @@ ghost use Rattle.std.specs.List.{list_any};
 ghost use Rattle.term_core.specs.Plain.{plain};
 ghost use Rattle.term_core.specs.TermForms.{is_term_text as is_form, is_wide_text as is_wide_form};
 ghost use Rattle.script_text.specs.Causes.{Gives};
-ghost use Rattle.script_text.specs.Naming.{atom_named, ref_named, refs_named, trace_named, argument_named, arguments_named, is_wide_word, is_long_word, key_named, put_named, target_named, call_named};
+ghost use Rattle.script_text.specs.Naming.{atom_named, ref_named, refs_named, trace_named, argument_named, arguments_named, is_wide_word, is_long_word, key_with_term, put_named, target_named, call_named};
 ghost use Rattle.script_text.specs.WrittenLine.{complex, is_sound_word, kept_ref, kept_trace, kept_argument, kept_put, kept_call};
 
 use crate::fault::Which;
@@ -142,7 +142,7 @@ fn are_long(args: &[WrittenArgument<'_>]) -> bool
     args.iter().any(|argument| is_long(*argument))
 }
 
-#[tactic(auto, unfolding(crate::specs::Naming::key_named))]
+#[tactic(auto, unfolding(crate::specs::Naming::key_with_term))]
 fn name_key(
     alloc: Global,
     names: &mut Names,
@@ -150,7 +150,7 @@ fn name_key(
 ) -> Result<(AtomId, Term), LineCause>
     requires sound { IsTrue (is_sound_word (kept_argument put.term)) }
     requires narrow { is_wide_word (kept_argument put.term) ≡ false }
-    ensures { Gives (λ made. (made.0.0, plain made.1, names.new)) result (key_named names.old (kept_put put.entry)) }
+    ensures { Gives (λ made. (made.0.0, plain made.1, names.new)) result (key_with_term names.old (kept_put put.entry)) }
 {
     let key = name_atom(names, put.key)?;
     let term = name_argument(alloc, names, put.term)?;

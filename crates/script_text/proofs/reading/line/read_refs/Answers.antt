@@ -1,6 +1,6 @@
 use Rattle.script_text.proofs.Common.{sym, ap, ◌∙◌, map, map-append, err_from_is_err_and}
 use Rattle.std.specs.Prelude.{option_map}
-use Rattle.script_text.proofs.Texts.{parts_of, each_reading, byte_parts, byte_cut, byte_left}
+use Rattle.script_text.proofs.Texts.{parts_between, each_reading, byte_parts, byte_cut, byte_left}
 use Rattle.script_text.proofs.Texts.{with_read, with_read_none, reads_end, each_seen, less_left}
 use Rattle.script_text.proofs.Forms.{or_syntax, ref_reading, kept_ref, ref_words}
 use Rattle.script_text.proofs.ReadingLoops.{worded, part_goes_on, part_stops}
@@ -8,7 +8,7 @@ use Rattle.script_text.proofs.reading.line.read_refs.Goals as goal
 
 -- nothing is read at the start
 pub references-init : goal.references-init
-references-init c = rw c.new-refs.ensures.items (with_read_none (each_reading (worded ref_words ref_reading) (parts_of 32 c.args.text.now)))
+references-init c = rw c.new-refs.ensures.items (with_read_none (each_reading (worded ref_words ref_reading) (parts_between 32 c.args.text.now)))
 
 -- a reference is read
 pub references-preserved : goal.references-preserved
@@ -35,5 +35,5 @@ returns-in_err-read_reference c =
 pub returns : goal.returns
 returns c =
     let l = c.references in
-    ap or_syntax (each_seen ref_words ref_reading (parts_of 32 c.args.text.now) ∙ reads_end (worded ref_words ref_reading) (map kept_ref l.refs.items) _
+    ap or_syntax (each_seen ref_words ref_reading (parts_between 32 c.args.text.now) ∙ reads_end (worded ref_words ref_reading) (map kept_ref l.refs.items) _
     (ap (λ o. with_read (map kept_ref l.refs.items) (each_reading (worded ref_words ref_reading) (byte_parts 32 (option_map (λ rest. rest.now) o)))) (sym c.in_default.is) ∙ l.invariant))
