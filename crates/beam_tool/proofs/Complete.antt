@@ -6,7 +6,7 @@ use Rattle.prgr_core.specs.declared.event.Events.{Events}
 use Rattle.prgr_core.specs.declared.event.PrgrEvent.{PrgrEvent}
 use Rattle.prgr_core.specs.declared.progress.Progress.{Progress}
 use Rattle.prgr_core.specs.EventText.{EventText}
-use Rattle.prgr_core.specs.Step.{after, after_all, opening, StopsAt}
+use Rattle.prgr_core.specs.Step.{after, after_all, progress_opening, StopsAt}
 use Rattle.prgr_core.proofs.Grammars.{reading_complete}
 use Rattle.outside.specs.declared.check_input.TheConstants.{LONGEST_CHECK}
 use Rattle.outside.specs.Inputs.{HasFaultyReport, HasScriptAndReport, IsReportOf, IsScriptRead, IsTooLong, WasRead}
@@ -181,12 +181,12 @@ stop_at (event ∷ events) (suc k) start state b r = through (λ next. after_all
 never_stops : (start : Progress) (events : List PrgrEvent) (index : ℕ) (state end : Progress) → after_all start events ≡ Some end → StopsAt start events index state → ⊥
 never_stops start events index state end m s = let n = stop_at events (index - 1) start state s.before s.refused in absurd cc
 
-made_status : {events : Events} {status : ℕ} {log : Option RunLog} {text : List ℕ} (state : Progress) → after_all (opening events.members events.watchers) events.list ≡ Some state → ReplayOf events status log text → status ≡ 0
+made_status : {events : Events} {status : ℕ} {log : Option RunLog} {text : List ℕ} (state : Progress) → after_all (progress_opening events.members events.watchers) events.list ≡ Some state → ReplayOf events status log text → status ≡ 0
 made_status state m (all_made _ _) = refl
-made_status {events = events} state m (stopped index t s) = absurd (never_stops (opening events.members events.watchers) events.list index t state m s)
+made_status {events = events} state m (stopped index t s) = absurd (never_stops (progress_opening events.members events.watchers) events.list index t state m s)
 
-stopped_status : {events : Events} {status : ℕ} {log : Option RunLog} {text : List ℕ} (index : ℕ) (state : Progress) → StopsAt (opening events.members events.watchers) events.list index state → ReplayOf events status log text → status ≡ 1
-stopped_status {events = events} index state s (all_made t m) = absurd (never_stops (opening events.members events.watchers) events.list index state t m s)
+stopped_status : {events : Events} {status : ℕ} {log : Option RunLog} {text : List ℕ} (index : ℕ) (state : Progress) → StopsAt (progress_opening events.members events.watchers) events.list index state → ReplayOf events status log text → status ≡ 1
+stopped_status {events = events} index state s (all_made t m) = absurd (never_stops (progress_opening events.members events.watchers) events.list index state t m s)
 stopped_status index state s (stopped _ _ _) = refl
 
 -- the answer to a told event list is that to the list that was read
@@ -202,10 +202,10 @@ list_status wanted bytes events l s t answer (progress _ _ _ (whole_text _ _ _ _
 list_status wanted bytes events l s t answer (progress _ _ _ (whole_text read _ _ _ r (fault line f))) = absurd (f.none events (subst (λ (x : List ℕ). EventText x events) (told_is l r) t))
 list_status wanted {left = left} bytes events l s t answer (progress _ _ _ (long_text long)) = absurd (omega (arith, long_is LONGEST_SCRIPT left bytes l long, s))
 
-pub complete_replay_of : {form : Option Form} {left left' : Option (List ℕ)} {sf sf' : ℕ} {got got' : Option (List ℕ)} {kf kf' : ℕ} {status : ℕ} {log : Option RunLog} (bytes : List ℕ) (events : Events) (state : Progress) → Ends form left left' sf sf' got got' kf kf' status log → form ≡ Some forms.Progress → left ≡ Some bytes → length bytes ≤ LONGEST_SCRIPT → EventText bytes events → after_all (opening events.members events.watchers) events.list ≡ Some state → (Rose sf sf' → ⊥) → (Rose kf kf' → ⊥) → (status ≡ 0) ⊎ (status ≡ 6)
+pub complete_replay_of : {form : Option Form} {left left' : Option (List ℕ)} {sf sf' : ℕ} {got got' : Option (List ℕ)} {kf kf' : ℕ} {status : ℕ} {log : Option RunLog} (bytes : List ℕ) (events : Events) (state : Progress) → Ends form left left' sf sf' got got' kf kf' status log → form ≡ Some forms.Progress → left ≡ Some bytes → length bytes ≤ LONGEST_SCRIPT → EventText bytes events → after_all (progress_opening events.members events.watchers) events.list ≡ Some state → (Rose sf sf' → ⊥) → (Rose kf kf' → ⊥) → (status ≡ 0) ⊎ (status ≡ 6)
 complete_replay_of bytes events state ends f l s t m ns nk = quiet_of (Some forms.Progress) 0 ends f ns nk (λ k g x v. list_status 0 bytes events l s t (λ n h y u. made_status state m u) v)
 
-pub complete_stop_of : {form : Option Form} {left left' : Option (List ℕ)} {sf sf' : ℕ} {got got' : Option (List ℕ)} {kf kf' : ℕ} {status : ℕ} {log : Option RunLog} (bytes : List ℕ) (events : Events) (index : ℕ) (state : Progress) → Ends form left left' sf sf' got got' kf kf' status log → form ≡ Some forms.Progress → left ≡ Some bytes → length bytes ≤ LONGEST_SCRIPT → EventText bytes events → StopsAt (opening events.members events.watchers) events.list index state → (Rose sf sf' → ⊥) → (Rose kf kf' → ⊥) → (status ≡ 1) ⊎ (status ≡ 6)
+pub complete_stop_of : {form : Option Form} {left left' : Option (List ℕ)} {sf sf' : ℕ} {got got' : Option (List ℕ)} {kf kf' : ℕ} {status : ℕ} {log : Option RunLog} (bytes : List ℕ) (events : Events) (index : ℕ) (state : Progress) → Ends form left left' sf sf' got got' kf kf' status log → form ≡ Some forms.Progress → left ≡ Some bytes → length bytes ≤ LONGEST_SCRIPT → EventText bytes events → StopsAt (progress_opening events.members events.watchers) events.list index state → (Rose sf sf' → ⊥) → (Rose kf kf' → ⊥) → (status ≡ 1) ⊎ (status ≡ 6)
 complete_stop_of bytes events index state ends f l s t m ns nk = quiet_of (Some forms.Progress) 1 ends f ns nk (λ k g x v. list_status 1 bytes events l s t (λ n h y u. stopped_status index state m u) v)
 
 -- a text that is over the limit or no list is no event list that was read

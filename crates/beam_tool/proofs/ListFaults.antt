@@ -3,7 +3,7 @@ use Rattle.std.proofs.Common.{◌≡◌, ℕ, ◌-◌, ◌≤◌, List, [], ◌�
 use Rattle.std.proofs.lemmas.Bool.{cases_lt}
 use Rattle.std.proofs.lemmas.List.{take-append-drop, take-take}
 use Rattle.prgr_core.specs.EventText.{EventText, line_then}
-use Rattle.prgr_core.specs.Reading.{lines_of, reading}
+use Rattle.prgr_core.specs.Reading.{event_lines_of, reading}
 use Rattle.prgr_core.specs.Faults.{IsFirstFault, IsLast, IsOfNoForm, IsUnended, Opens, joined}
 use Rattle.prgr_core.proofs.FirstFaults.{first_fault}
 use Rattle.prgr_core.proofs.Grammars.{reading_complete}
@@ -30,19 +30,19 @@ all_less : (ls : List (List ℕ)) (m : ℕ) → Opens ls → Opens (take m ls)
 all_less ls m opens = opens_front (take m ls) (drop m ls) (subst Opens (sym (take-append-drop m ls)) opens)
 
 -- where the lines up to this one begin no text, no later line is the first of another form
-no_later : (text : List ℕ) (m n : ℕ) → IsOfNoForm (lines_of text) m → Opens (take (n - 1) (lines_of text).ended) → n ≤ m
+no_later : (text : List ℕ) (m n : ℕ) → IsOfNoForm (event_lines_of text) m → Opens (take (n - 1) (event_lines_of text).ended) → n ≤ m
 no_later text m n none opens = elim (cases_lt m n) as (λ _. n ≤ m) [
-  | inl fewer ↦ absurd (none.1 (opens_less (lines_of text).ended m (n - 1) (omega (arith, fewer)) opens))
+  | inl fewer ↦ absurd (none.1 (opens_less (event_lines_of text).ended m (n - 1) (omega (arith, fewer)) opens))
   | inr more ↦ more
 ]
 
 -- where all lines begin a text, so do those up to each of them
-none_last : (text : List ℕ) (m n : ℕ) → IsOfNoForm (lines_of text) m → IsLast (lines_of text) n → ⊥
-none_last text m n none last = none.1 (all_less (lines_of text).ended m last.2)
+none_last : (text : List ℕ) (m n : ℕ) → IsOfNoForm (event_lines_of text) m → IsLast (event_lines_of text) n → ⊥
+none_last text m n none last = none.1 (all_less (event_lines_of text).ended m last.2)
 
 -- one way in which a line is at fault
 abbrev Kind : List ℕ → ℕ → Type 0
-Kind text line = IsOfNoForm (lines_of text) line ⊎ (IsUnended (lines_of text) line ⊎ IsLast (lines_of text) line)
+Kind text line = IsOfNoForm (event_lines_of text) line ⊎ (IsUnended (event_lines_of text) line ⊎ IsLast (event_lines_of text) line)
 
 same_line : (text : List ℕ) (m n : ℕ) → IsFirstFault text m → IsFirstFault text n → Kind text m → Kind text n → m ≡ n
 same_line text m n f g (inl a) (inl b) = omega (arith, no_later text m n a g.before, no_later text n m b f.before)

@@ -4,7 +4,7 @@ use Rattle.std.specs.Prelude.{IfOk}
 use Rattle.prgr_core.specs.declared.event.Events.{Events}
 use Rattle.prgr_core.specs.declared.progress.Progress.{Progress}
 use Rattle.prgr_core.specs.EventText.{EventText}
-use Rattle.prgr_core.specs.Step.{after_all, opening, StopsAt}
+use Rattle.prgr_core.specs.Step.{after_all, progress_opening, StopsAt}
 use Rattle.script_core.specs.declared.script.TheConstants.{LONGEST_SCRIPT}
 use Rattle.script_core.specs.declared.script.Script.{Script}
 use Rattle.script_text.specs.declared.fault.ScriptFault.{ScriptFault}
@@ -78,14 +78,14 @@ pub replay_of : (bytes : List ℕ) (events : Events) (status : ℕ) (log : Optio
 replay_of bytes events status log text t r = replay events status log text t r
 
 -- the answer to a list whose events were all made
-pub replay_made : (events : Events) (s t : Progress) (n status : ℕ) (log : Option RunLog) (text : List ℕ) → s ≡ opening events.members events.watchers → n ≡ length events.list → after_all s events.list ≡ Some t → IsLine 0 (done_text n t) status log text → ReplayOf events status log text
+pub replay_made : (events : Events) (s t : Progress) (n status : ℕ) (log : Option RunLog) (text : List ℕ) → s ≡ progress_opening events.members events.watchers → n ≡ length events.list → after_all s events.list ≡ Some t → IsLine 0 (done_text n t) status log text → ReplayOf events status log text
 replay_made events s t n status log text se ne r line =
-    let made_so : after_all (opening events.members events.watchers) events.list ≡ Some t = subst (λ (x : Progress). after_all x events.list ≡ Some t) se r in
+    let made_so : after_all (progress_opening events.members events.watchers) events.list ≡ Some t = subst (λ (x : Progress). after_all x events.list ≡ Some t) se r in
     let answer : ReplayOf events 0 None (done_text n t) = subst (λ (x : ℕ). ReplayOf events 0 None (done_text x t)) (sym ne) (all_made t made_so) in
     by_line (ReplayOf events) 0 (done_text n t) status log text answer line
 
 -- the answer to a list with an event that is not enabled
-pub replay_stopped : (events : Events) (s t : Progress) (index status : ℕ) (log : Option RunLog) (text : List ℕ) → s ≡ opening events.members events.watchers → StopsAt s events.list index t → IsLine 1 (not_enabled_text index) status log text → ReplayOf events status log text
+pub replay_stopped : (events : Events) (s t : Progress) (index status : ℕ) (log : Option RunLog) (text : List ℕ) → s ≡ progress_opening events.members events.watchers → StopsAt s events.list index t → IsLine 1 (not_enabled_text index) status log text → ReplayOf events status log text
 replay_stopped events s t index status log text se r line =
     by_line (ReplayOf events) 1 (not_enabled_text index) status log text (stopped index t (subst (λ (x : Progress). StopsAt x events.list index t) se r)) line
 

@@ -9,7 +9,7 @@ use Rattle.prgr_core.specs.declared.event.Events.{Events}
 use Rattle.prgr_core.specs.declared.progress.Progress.{Progress}
 use Rattle.prgr_core.specs.EventText.{EventText}
 use Rattle.prgr_core.specs.Faults.{IsFirstFault}
-use Rattle.prgr_core.specs.Step.{after_all, opening, StopsAt}
+use Rattle.prgr_core.specs.Step.{after_all, progress_opening, StopsAt}
 use Rattle.outside.specs.declared.check_input.TheConstants.{LONGEST_CHECK}
 use Rattle.word_run.specs.declared.beginning.TheConstants.{MOST_SCHEDULERS}
 use Rattle.beam_tool.specs.declared.form.Form.{Form}
@@ -188,8 +188,8 @@ pub record IsListFault (bytes : List ℕ) (line : ℕ) : Type 0 where
 
 -- the answer to an event list: all events were made, or the first that is not enabled
 pub data ReplayOf (events : Events) : ℕ → Option RunLog → List ℕ → Type 0 where
-  all_made : (state : Progress) → after_all (opening events.members events.watchers) events.list ≡ Some state → ReplayOf events 0 None (done_text (length events.list) state)
-  stopped : (index : ℕ) (state : Progress) → StopsAt (opening events.members events.watchers) events.list index state → ReplayOf events 1 None (not_enabled_text index)
+  all_made : (state : Progress) → after_all (progress_opening events.members events.watchers) events.list ≡ Some state → ReplayOf events 0 None (done_text (length events.list) state)
+  stopped : (index : ℕ) (state : Progress) → StopsAt (progress_opening events.members events.watchers) events.list index state → ReplayOf events 1 None (not_enabled_text index)
 
 -- the answer of a replay to the bytes that it read: that to the event list that they are, or the first faulty line
 pub data ListVerdict (bytes : List ℕ) : ℕ → Option RunLog → List ℕ → Type 0 where

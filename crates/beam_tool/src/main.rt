@@ -1,9 +1,13 @@
 //! The program: it runs a loader script on a code server and reports what the run did.
 #![tactic(auto)]
 
+#[cfg(test)]
+mod answer_tests;
 mod check_form;
 #[cfg(test)]
 mod check_tests;
+#[cfg(test)]
+mod fault_tests;
 mod form;
 #[cfg(test)]
 mod held_tests;

@@ -23,11 +23,11 @@ const RUNS: [&[&str]; 3] = [
 pub const CHECK: &[&str] = &["check"];
 
 /// The first script.
-const FIRST: &str =
+pub const FIRST: &str =
     "beam script 1\nmodule m.1\nexport main/0\nadd 1 2 $0\nprint $0\nend\nloader\nload m.1\nspawn m:main()\ngo\n";
 
 /// The report of the first script, 143 bytes.
-const FIRST_REPORT: &str =
+pub const FIRST_REPORT: &str =
     "beam report 1\ngenerations 1\nentry L0 load m.1 = ok @1\nentry L0 spawn m:main() = ok -\nprocess 0 m:main()\nspan 1 1\nprint 3\nend normal\nend report\n";
 
 /// A module whose third version is loaded while there is old code.
@@ -41,10 +41,10 @@ const THREE_VERSIONS_REPORT: &str =
 /// How a source and a sink are handed in: the bytes of a call of each, and the call that fails, if it is made.
 #[derive(Clone, Copy)]
 pub struct Outside {
-    read_piece: usize,
-    read_fails: u64,
-    write_piece: usize,
-    write_fails: u64,
+    pub read_piece: usize,
+    pub read_fails: u64,
+    pub write_piece: usize,
+    pub write_fails: u64,
 }
 
 pub const CALM: Outside = Outside {
@@ -223,65 +223,6 @@ fn the_report_of_the_empty_script_is_cut(rt: HostRuntime) -> Result<(), Fail> {
     Ok(())
 }
 
-/// The first script by a source and a sink of these pieces, of which a call fails: its status, and how many bytes of its report the sink got.
-fn falls_short<R: Threads + Wait + Sync + AllocGlobal + Abort>(
-    rt: &R,
-    outside: Outside,
-    status: u8,
-    got: usize,
-) -> Result<bool, NoMemory> {
-    let run = outcome_of(rt, RUN, FIRST.as_bytes(), outside)?;
-    let written = FIRST_REPORT.as_bytes().get(..got);
-    Ok(run.status == status && Some(run.got.as_slice()) == written && run.logged == (status != 4))
-}
-
-/// The script has 97 bytes, and its report 143.
-#[test]
-fn outside_faults(rt: HostRuntime) -> Result<(), Fail> {
-    // The piece, and the first call of the source that is not made: the one before finds the end.
-    for (read_piece, unmade) in [(1, 99), (7, 16), (65_536, 3)] {
-        for read_fails in 1..=unmade {
-            let outside = Outside {
-                read_piece,
-                read_fails,
-                ..CALM
-            };
-            let (status, got) = if read_fails == unmade {
-                (0, 143)
-            } else {
-                (4, 0)
-            };
-            assert!(rt;
-                falls_short(&rt, outside, status, got)?,
-                "pieces of {read_piece}, fails at {read_fails}"
-            );
-        }
-    }
-    for write_fails in 1..=18 {
-        let outside = Outside {
-            write_piece: 8,
-            write_fails,
-            ..CALM
-        };
-        let got = 8 * (write_fails as usize - 1);
-        assert!(rt;
-            falls_short(&rt, outside, 5, got)?,
-            "fails at {write_fails}"
-        );
-    }
-    // No call fails that is made.
-    for (piece, write_fails) in [(8, 19), (1, 0)] {
-        let outside = Outside {
-            read_piece: piece,
-            write_piece: piece,
-            write_fails,
-            ..CALM
-        };
-        assert!(rt; falls_short(&rt, outside, 0, 143)?, "pieces of {piece}");
-    }
-    Ok(())
-}
-
 #[test]
 fn a_sure_source_and_sink_are_served(rt: HostRuntime) -> Result<(), Fail> {
     let alloc = rt.alloc();
@@ -299,86 +240,5 @@ fn a_sure_source_and_sink_are_served(rt: HostRuntime) -> Result<(), Fail> {
         &NoGate,
     );
     assert_eq!(rt; finish.status, 0);
-    Ok(())
-}
-
-/// A text, its status under these words and the line that is written.
-fn answers<R: Threads + Wait + Sync + AllocGlobal + Abort>(
-    rt: &R,
-    words: &[&str],
-    case: (&str, u8, &str),
-) -> Result<bool, NoMemory> {
-    let (text, status, line) = case;
-    let call = outcome_of(rt, words, text.as_bytes(), CALM)?;
-    Ok(call.status == status && call.got.as_slice() == line.as_bytes() && !call.logged)
-}
-
-#[test]
-fn faulty_scripts_are_refused(rt: HostRuntime) -> Result<(), Fail> {
-    let cases = [
-        ("", 3, "refused 1 syntax\n"),
-        (
-            "beam script 1\nmodule m.1\nexport main/0\n",
-            3,
-            "refused 3 syntax\n",
-        ),
-        (
-            "beam script 1\nloader\nspawn m:main()\nload m.9\ngo\n",
-            3,
-            "refused 4 unknown_name\n",
-        ),
-        (
-            "beam script 1\nmodule m.1\nend\nmodule m.1\nend\ngo\n",
-            3,
-            "refused 4 duplicate\n",
-        ),
-        (
-            "beam script 1\nloader\nloader\nloader\nloader\nloader\nloader\nloader\nloader\nloader\ngo\n",
-            3,
-            "refused 10 limit loaders\n",
-        ),
-        (
-            "beam script 1\nmodule m.1\nexport main/0\njump b\nend\ngo\n",
-            3,
-            "refused 4 unknown_name\n",
-        ),
-    ];
-    for case in cases {
-        assert!(rt; answers(&rt, &["run"], case)?, "at {}", case.0);
-    }
-    Ok(())
-}
-
-/// The events of a claim up to the second raise of the counter.
-const CLAIMED: &str =
-    "beam progress 1\nmembers 1\nwatchers 1\nwatch_load 0\nwatch_add 0 1\nwatch_load 0\nwatch_root 0\nlead 0\nscan 0 0\nscan_delay 0\nadvance 0\nload_counter 0\nload_root 0\nreport 0\nscan 0 0\nscan_delay 0\n";
-
-#[test]
-fn event_lists_are_replayed(rt: HostRuntime) -> Result<(), Fail> {
-    let alloc = rt.alloc();
-    let waits = format!(in alloc; "{CLAIMED}advance 0\ngo\n")?;
-    let ends = format!(in alloc; "{CLAIMED}watch_sub 0 1\nscan_delay 0\nadvance 0\ngo\n")?;
-    let cases = [
-        (
-            "beam progress 1\nmembers 1\nwatchers 0\npublish\nretire\nlead 0\nscan 0 0\nadvance 0\nrelease 1\ngo\n",
-            1,
-            "not enabled 6\n",
-        ),
-        (
-            "beam progress 1\nmembers 2\nwatchers 0\nwait 1\nlead 0\nscan 0 0\nscan 0 1\nenter 1\nload_counter 1\nload_root 1\nadvance 0\nreport 1\ngo\n",
-            0,
-            "done events 9 counter 2 generation 0\n",
-        ),
-        (waits.as_str(), 1, "not enabled 14\n"),
-        (ends.as_str(), 0, "done events 16 counter 3 generation 0\n"),
-        (
-            "beam progress 1\nmembers 17\nwatchers 0\ngo\n",
-            3,
-            "refused 2 syntax\n",
-        ),
-    ];
-    for case in cases {
-        assert!(rt; answers(&rt, &["progress"], case)?, "at {}", case.0);
-    }
     Ok(())
 }

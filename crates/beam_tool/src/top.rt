@@ -2,7 +2,7 @@ ghost use Rattle.std.specs.Prelude.{◌≡◌, ◌≢◌, ◌≤◌, ◌<◌, �
 ghost use Rattle.prgr_core.specs.EventText.{EventText};
 ghost use Rattle.prgr_core.specs.declared.event.Events.{Events};
 ghost use Rattle.prgr_core.specs.declared.progress.Progress.{Progress};
-ghost use Rattle.prgr_core.specs.Step.{after_all, opening, StopsAt};
+ghost use Rattle.prgr_core.specs.Step.{after_all, progress_opening, StopsAt};
 ghost use Rattle.script_core.specs.declared.script.Script.{Script};
 ghost use Rattle.script_text.specs.declared.fault.ScriptFault.{ScriptFault};
 ghost use Rattle.script_text.specs.ScriptText.{ScriptText, FaultOf};
@@ -143,12 +143,12 @@ pub fn beam_top<R: Threads + Wait + Sync, S: Source, K: Sink, G: Gate>(
         → (result.status ≡ REFUSED) ⊎ (result.status ≡ NO_MEMORY) }
     ensures complete_replay { (bytes : List ℕ) (events : Events) (state : Progress) → the_form_of (map string_bytes words.now) ≡ Some Form.Progress
         → S.left source.old ≡ Some bytes → length bytes ≤ LONGEST_SCRIPT → EventText bytes events
-        → after_all (opening events.members events.watchers) events.list ≡ Some state
+        → after_all (progress_opening events.members events.watchers) events.list ≡ Some state
         → (Rose (S.faults source.old) (S.faults source.new) → ⊥) → (Rose (K.faults sink.old) (K.faults sink.new) → ⊥)
         → (result.status ≡ DONE) ⊎ (result.status ≡ NO_MEMORY) }
     ensures complete_stop { (bytes : List ℕ) (events : Events) (index : ℕ) (state : Progress) → the_form_of (map string_bytes words.now) ≡ Some Form.Progress
         → S.left source.old ≡ Some bytes → length bytes ≤ LONGEST_SCRIPT → EventText bytes events
-        → StopsAt (opening events.members events.watchers) events.list index state
+        → StopsAt (progress_opening events.members events.watchers) events.list index state
         → (Rose (S.faults source.old) (S.faults source.new) → ⊥) → (Rose (K.faults sink.old) (K.faults sink.new) → ⊥)
         → (result.status ≡ NOT_ALLOWED) ⊎ (result.status ≡ NO_MEMORY) }
     ensures complete_fault { (bytes : List ℕ) → the_form_of (map string_bytes words.now) ≡ Some Form.Progress
