@@ -10,31 +10,21 @@ use Rattle.machine_core.specs.Process.{PlainFrame, PlainValue, literal, owned}
 
 -- what a turn may ask of one generation of the server
 pub record Reads : Type 0 where
-  -- the current instance of the module with a name
+  -- a module's current instance; of an instance, which its serial names: a function that it exports, how many it has, its module's name
   pub current : ℕ → Option ℕ
-  -- the function that an instance exports under a name and an arity
   pub export : ℕ → Mfa → Option ℕ
-  -- how many functions an instance has; an area that is no instance has none
   pub functions : ℕ → ℕ
-  -- the name of an instance's module
   pub module_name : ℕ → AtomId
-  -- the name of a function, without its module
+  -- of a function: its name, without its module, its arguments, the place of its first instruction, the one at a place, and whether it has a breakpoint
   pub function_name : Entry → AtomId
-  -- how many arguments a function takes
   pub arity : Entry → ℕ
-  -- the place of a function's first instruction
   pub first : Entry → ℕ
-  -- the instruction of a function that stands at a place, its target a place too
   pub instr : Entry → ℕ → Instr
-  -- whether a function has a breakpoint
   pub traced : Entry → Bool
-  -- what a key holds, as a value: a complex term is a literal of its own area
+  -- what a key holds (a complex term is a literal of its area); of an area: is it a complex term's, is its code being purged, is it dropped and not released
   pub key : ℕ → Option PlainValue
-  -- whether an area is that of a complex term
   pub is_term : ℕ → Bool
-  -- whether an instance is being purged
   pub doomed : ℕ → Bool
-  -- whether an area was dropped and is not released
   pub retired : ℕ → Bool
 
 -- what a call of m:f/a reaches: the function that the current instance of m exports

@@ -104,20 +104,10 @@ code_words place (i ∷ is) = instr_words place i ++ code_words (place + constan
 
 -- an instruction, with a place for the number of its target
 abbrev pub placed : (ℕ → ℕ) → Instr → Instr
-placed place (Move from to) = Move from to
-placed place (Add a b to) = Add a b to
-placed place (Sub a b to) = Sub a b to
 placed place (Eq a b target) = Eq a b (place target)
 placed place (Less a b target) = Less a b (place target)
 placed place (Jump target) = Jump (place target)
-placed place (Call function at) = Call function at
-placed place (CallExt to at) = CallExt to at
-placed place (Ret value) = Ret value
-placed place (Pget key to) = Pget key to
-placed place (PgetOr key other to) = PgetOr key other to
-placed place (Elem index from to) = Elem index from to
-placed place (Print value) = Print value
-placed place Yield = Yield
+placed place instr = instr
 
 -- the place of the instruction with a number, or of the end, in code that begins at a place
 abbrev pub place_in : ℕ → List Instr → ℕ → ℕ

@@ -67,6 +67,7 @@ impl RetiredAreas {
         self.table.room(alloc, next_serial as usize)
     }
 
+    /// Appends the serial as the newest, in the blocks that `room` gave.
     pub fn push(&mut self, serial: u64, room: RetiredRoom)
         requires { CanRetire self.old serial room }
         ensures { self.new ≡ self.old ++ serial ∷ [] }

@@ -4,7 +4,7 @@ use Rattle.std.specs.Prelude.{◌==◌, Some, slice_get, IsTrue}
 use Rattle.std.proofs.lemmas.Bool.{and_parts, and_from, cases_Bool, eq-eqb, eqb-true, true≢false}
 use Rattle.area_core.specs.declared.map.TheConstants.{AREAS_START}
 use Rattle.area_core.specs.declared.map.WordKind.{WordKind}
-use Rattle.area_core.specs.declared.map.WordKind.TheVariants.{Machine, Slot, Retire, Doom, InBlock, Nowhere}
+use Rattle.area_core.specs.declared.map.WordKind.TheVariants.{Retire, InBlock}
 use Rattle.area_core.specs.declared.table.KeptArea.{KeptArea}
 use Rattle.area_core.specs.declared.table.Published.{Published}
 use Rattle.area_core.specs.Generations.{is_entry_word}
@@ -55,11 +55,7 @@ plain_left w words value (Retire other) fits sound g p may here once block at re
           let parts = and_parts (left.0.area.block == block) (is_entry_word left.0 at) left.3 in
           absurd (true≢false (sym parts.1 ∙ plain left.0 (left.1, left.2) (eqb-true left.0.area.block block parts.0)))
     ]
-plain_left w words value (Doom other) fits sound g p may here once block at reads plain = plain
-plain_left w words value (InBlock other place) fits sound g p may here once block at reads plain = plain
-plain_left w words value Machine fits sound g p may here once block at reads plain = plain
-plain_left w words value Slot fits sound g p may here once block at reads plain = plain
-plain_left w words value Nowhere fits sound g p may here once block at reads plain = plain
+plain_left w words value kind fits sound g p may here once block at reads plain = plain
 
 -- the store of an entry word of a kept area leaves what is no such word
 pub kept_patched : (w : WriterView) (word value block at : ℕ) → kind_at word ≡ InBlock block at → (k : KeptArea) → Among w.kept k → k.area.block ≡ block → is_entry_word k at ≡ true → (f : BlockWord) → WordKept w f → WordKept (with_word word value w) f

@@ -1,11 +1,10 @@
 -- What is read of a text that stands in a line is what its written term says.
-use Rattle.std.proofs.Common.{◌≡◌, ℕ, ◌<◌, ℤ, pos, Bool, true, false, ◌==◌, ◌||◌, not, List, [], ◌∷◌, length, Option, None, Some, is_none, is_some, unwrap_or, All, IsSome, Result, Ok, Err, IfOk, IsTrue, refl, sym, ap, ◌∙◌, subst, arith}
+use Rattle.std.proofs.Common.{◌≡◌, ℕ, ◌<◌, pos, Bool, true, false, ◌==◌, ◌||◌, List, [], ◌∷◌, length, Option, None, Some, is_none, is_some, unwrap_or, All, IsSome, Result, Ok, Err, IfOk, IsTrue, refl, sym, ap, ◌∙◌, subst, arith}
 use Rattle.std.specs.List.{list_all}
 use Rattle.std.proofs.lemmas.Bool.Decides.{Decides-eqb}
 use Rattle.std.proofs.lemmas.List.Elements.{All-nil, All-cons}
 use Rattle.term_core.specs.declared.term.Term.{Term}
 use Rattle.term_core.specs.Faults.{IsTextOf}
-use Rattle.term_core.specs.Image.{is_immediate}
 use Rattle.term_core.specs.Names.{IsNames, number_of}
 use Rattle.term_core.specs.Plain.{plain}
 use Rattle.term_core.specs.PlainTerm.{integer_leaf, atom_leaf, map_leaves, atoms_of, term_words}
@@ -22,7 +21,7 @@ use Rattle.term_core.proofs.Ranges.{none_of_fits}
 use Rattle.term_core.proofs.ReadingLaws.{TermText-is_text, TermText-words}
 use Rattle.term_core.proofs.Scanning.Faults.{text_if}
 use Rattle.term_core.proofs.Scanning.Sound.{FormOf}
-use Rattle.term_core.proofs.TermBytes.{is_term_byte, term_bytes-written, nonempty-written}
+use Rattle.term_core.proofs.TermBytes.{nonempty-written}
 use Rattle.term_core.proofs.TextForms.{text_words as words_of_text, text_atoms, text_built, text_outside, text_no_fault}
 use Rattle.term_core.proofs.Truths.{false_is_no_true, is_some_at, none_by}
 use Rattle.std.proofs.lemmas.Bool.{and_parts, false_from_ne_true}
@@ -122,24 +121,9 @@ bracketed_written (integer_leaf text) h = leaf_bracketed text (LeafText-integer 
 bracketed_written (atom_leaf text) h = leaf_bracketed text (LeafText-atom text h)
 bracketed_written form h = refl
 
--- one word stands for a term that is in no brackets
-immediate_of : (f : List ℕ → ℤ) (g : List ℕ → ℕ) (form : WrittenTerm) → is_immediate (map_leaves f g form) ≡ not (is_in_brackets form)
-immediate_of f g (integer_leaf text) = refl
-immediate_of f g form = refl
-
 -- a text begins with a bracket exactly where its term stands in brackets
 pub is_bracketed-form : (text : List ℕ) (form : WrittenTerm) → IsTextOf text form → is_bracketed text ≡ is_in_brackets form
 is_bracketed-form text form h = ap is_bracketed h.whole ∙ bracketed_written form h.leaves
-
--- so does the text of a term that one word does not stand for
-pub is_immediate-term_in : (names : List (List ℕ)) (text : List ℕ) → IsTrue (is_term_text text) → is_immediate (term_in names text) ≡ not (is_bracketed text)
-is_immediate-term_in names text h =
-    let form = tree_is text h in
-    ap is_immediate (form.value names) ∙ immediate_of integer_of (number_in names) (tree_of text) ∙ ap not (sym (is_bracketed-form text (tree_of text) form.is_text))
-
--- each byte of a term's text is a term's
-pub term_bytes-is_term_text : (text : List ℕ) → IsTrue (is_term_text text) → list_all is_term_byte text ≡ true
-term_bytes-is_term_text text h = let form = form_if text h in ap (list_all is_term_byte) form.is_text.whole ∙ term_bytes-written form.form form.is_text.leaves
 
 -- and there is one
 pub nonempty-is_term_text : (text : List ℕ) → IsTrue (is_term_text text) → 0 < length text
