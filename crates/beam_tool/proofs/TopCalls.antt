@@ -73,7 +73,7 @@ told_of found {left = left} {left' = left'} {got = got} {got' = got'} {status = 
 
 reported_by : {n : ℕ} {left left' got got' : Option (List ℕ)} {status : ℕ} {log : Option RunLog} {text : List ℕ} → Verdict left left' (Some (forms.Run n)) status log text → Appends got got' text → status ≡ 0 → Reported left left' got got' log
 reported_by {got = got} {got' = got'} (run _ _ _ _ (whole_text bytes _ _ _ r (report s _ _ _ t h (made log text l k q)))) a e =
-    record { bytes = bytes; script = s; log = log; read = r; text = t; answered_is = refl; legal = l; formed = k; written = subst (λ (x : List ℕ). Appends got got' x) q a }
+    record { script = s; log = log; took = record { bytes = bytes; read = r; text = t }; answered_is = refl; legal = l; formed = k; written = subst (λ (x : List ℕ). Appends got got' x) q a }
 reported_by (run _ _ _ _ (whole_text _ _ _ _ r (refusal _ q bare))) a e = absurd (omega arith)
 reported_by (run _ _ _ _ (long_text l)) a e = absurd (omega arith)
 
@@ -83,13 +83,13 @@ headline_of n ends f e = let told = told_of (Some (forms.Run n)) ends f (omega (
 -- what a run wrote stands behind its script as a report
 accepted_by : {left left' got got' : Option (List ℕ)} {log : Option RunLog} → Reported left left' got got' log → IsAccepted left left' got got'
 accepted_by r = record {
-  bytes = r.bytes;
+  bytes = r.took.bytes;
   report = rendering_of r.script.names r.log;
   script = r.script;
   log = r.log;
-  read = r.read;
+  read = r.took.read;
   written = r.written;
-  parts = record { front = r.bytes; behind = rendering_of r.script.names r.log; whole = refl; text = r.text; report = record { formed = r.formed; text_is = refl } };
+  parts = record { front = r.took.bytes; behind = rendering_of r.script.names r.log; whole = refl; text = r.took.text; report = record { formed = r.formed; text_is = refl } };
   holds = r.legal;
 }
 

@@ -231,13 +231,17 @@ pub record Answered (form : Option Form) (left left_after got got_after : Option
   pub verdict : Verdict left left_after form status log text
   pub written : Appends got got_after text
 
--- status 0 of a run, the headline: the whole source is a script's text, the log is lawful for it and one that a report can show, and its report was written
-pub record Reported (left left_after got got_after : Option (List ℕ)) (answered : Option RunLog) : Type 0 where
+-- the source was read to its end, within the limit, and its bytes are this script's text
+pub record TookScript (left left_after : Option (List ℕ)) (script : Script) : Type 0 where
   pub bytes : List ℕ
-  pub script : Script
-  pub log : RunLog
   pub read : WasRead LONGEST_SCRIPT left left_after bytes
   pub text : ScriptText bytes script
+
+-- status 0 of a run, the headline: the whole source is a script's text, the log is lawful for it and one that a report can show, and its report was written
+pub record Reported (left left_after got got_after : Option (List ℕ)) (answered : Option RunLog) : Type 0 where
+  pub script : Script
+  pub log : RunLog
+  pub took : TookScript left left_after script
   pub answered_is : answered ≡ Some log
   pub legal : Legal script log
   pub formed : IsWellFormed script.names log
