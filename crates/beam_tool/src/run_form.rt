@@ -6,7 +6,6 @@ ghost use Rattle.beam_tool.specs.TopCall.{ReadVerdict, ScriptVerdict, ReportOf};
 ghost use Rattle.beam_tool.specs.ClosedTables.{Closing, ClosingOf, ClosingRead};
 
 use crate::work::{Work, unrun};
-use log_forms::entry_count;
 use outside::{Answer, DONE, Input, Source, Stop, read_whole, refusal};
 use run_log::render;
 use script_core::{LONGEST_SCRIPT, Script};
@@ -78,8 +77,6 @@ fn reported<R: Threads + Wait + Sync, G: Gate>(
     let Ran { log, closed } = ran;
     let mut text = ByteList::new(alloc);
     render(&script.names, &log, &mut text)?;
-    // The proof reads it: what stands in memory is short, so its numbers fit into a report's.
-    let _entries = entry_count(&log.journal);
     Ok(Work {
         answer: Answer {
             status: DONE,

@@ -1,5 +1,5 @@
 -- The turns of each process of a log were made under the states of the journal, and its marks in the words tell of them.
-use Rattle.std.proofs.Common.{◌≡◌, ◌≢◌, ℕ, suc, ◌<◌, ◌≤◌, ◌%◌, List, [], ◌∷◌, ◌++◌, length, length-append, slice_get, Option, Some, IfSome, All, refl, sym, ap, subst, ◌∙◌, arith}
+use Rattle.std.proofs.Common.{◌≡◌, ℕ, suc, ◌<◌, ◌≤◌, ◌%◌, List, [], ◌∷◌, ◌++◌, length, length-append, slice_get, Option, Some, IfSome, All, refl, sym, ap, subst, ◌∙◌, arith}
 use Rattle.std.proofs.lemmas.List.Elements.{All-from_recursion}
 use Rattle.std.proofs.lemmas.Nat.{mod_below}
 use Rattle.std.proofs.lemmas.Option.{slice_get_within}
@@ -23,7 +23,7 @@ use Rattle.run_log.specs.declared.logs.ProcessLog.{ProcessLog}
 use Rattle.run_log.specs.declared.logs.RunLog.{RunLog}
 use Rattle.run_log.specs.declared.logs.Span.{Span}
 use Rattle.run_log.specs.Journal.{published_before, published_count}
-use Rattle.run_log.specs.Legal.{IsLogOf, LogsMatch, SpansFollow, first_generation, marks_of, turns_in_log}
+use Rattle.run_log.specs.Legal.{HasTurns, IsLogOf, LogsMatch, SpansFollow, first_generation, marks_of, turns_in_log}
 use Rattle.run_log.specs.WholeSpans.{AreWhole}
 use Rattle.run_log.proofs.Journals.{before_counted}
 use Rattle.run_log.proofs.ListPlaces.{get_within}
@@ -183,11 +183,11 @@ module _ (names : List Mfa) (s : Script) (log : RunLog) (w : WriterView) (over :
       matched (line ∷ lines) [] e h = absurd (omega (arith, e))
       matched (line ∷ lines) (x ∷ xs) e h = (h 0 line x refl refl, matched lines xs (omega (arith, e)) (λ n y q a b. h (suc n) y q a b))
 
-  pub all_turned : All (λ process. length process.spans ≢ 0) log.processes
+  pub all_turned : All HasTurns log.processes
   all_turned =
-      all_logs (λ process. length process.spans ≢ 0) log.processes
-      (of_each (λ number process. length process.spans ≢ 0)
-      (λ number m line process t. some_spans states (new_process number process.target process.args) process.spans process.fin t.follow))
+      all_logs HasTurns log.processes
+      (of_each (λ number process. HasTurns process)
+      (λ number m line process t. (some_spans states (new_process number process.target process.args) process.spans process.fin t.follow, All-from_recursion (λ (span : Span). 0 < span.turns) process.spans (t.whole).turns)))
 
   pub all_published : All (λ process. All (λ span. span.generation ≤ top) process.spans) log.processes
   all_published =

@@ -1,6 +1,6 @@
 -- The laws on the end of a run over shared words.
 -- Source: this project's profile, as the sequential reading of erts internal documentation, CodeLoading.
-use Rattle.std.specs.Prelude.{◌≡◌, ◌≢◌, ℕ, ◌<◌, ◌≤◌, ◌%◌, List, length, slice_get, Some, All}
+use Rattle.std.specs.Prelude.{◌≡◌, ℕ, ◌<◌, ◌≤◌, ◌%◌, List, length, slice_get, Some, All}
 use Rattle.std.specs.List.{AllByRecursion}
 use Rattle.atomic_table.specs.Seated.{TableId}
 use Rattle.term_core.specs.declared.atom.Mfa.{Mfa}
@@ -21,7 +21,7 @@ use Rattle.script_core.specs.Sound.{IsScript}
 use Rattle.run_log.specs.declared.logs.Entry.{Entry}
 use Rattle.run_log.specs.declared.logs.RunLog.{RunLog}
 use Rattle.run_log.specs.Journal.{published_count}
-use Rattle.run_log.specs.Legal.{LingersTold, LogsMatch, PurgedUnnamed, ReleasedUnnamed, Replays, SpawnBeforeTurns, TurnsFollow, commands_in, commands_of}
+use Rattle.run_log.specs.Legal.{HasTurns, LingersTold, LogsMatch, PurgedUnnamed, ReleasedUnnamed, Replays, SpawnBeforeTurns, TurnsFollow, commands_in, commands_of}
 use Rattle.run_log.specs.WholeSpans.{AreWhole}
 use Rattle.run_steps.specs.MadeTurns.{AreAlsoMade, ArePlacedOver, TurnsAlike, TurnsMade, marks_made}
 use Rattle.run_steps.specs.Stands.{Stand}
@@ -131,7 +131,7 @@ PurgesAreUnnamed = OfEachAnswered PurgedUnnamed
 -- one span
 pub record HasAllTurns (s : Script) (log : RunLog) : Type 0 where
   pub processes : LogsMatch (spawns_of 0 s.loaders) log.processes
-  pub turns : All (λ process. length process.spans ≢ 0) log.processes
+  pub turns : All HasTurns log.processes
   pub generations : All (λ process. All (λ span. span.generation ≤ published_count log.journal) process.spans) log.processes
   pub whole : All (λ process. AreWhole process.spans) log.processes
 

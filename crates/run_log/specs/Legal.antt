@@ -1,7 +1,7 @@
 -- Which logs are lawful for a script: those of a history of one code server.
 -- Source: this project's profile, as the sequential reading of erts internal documentation, CodeLoading, and of the manual page `persistent_term`.
 -- The definition replays the journal and the turns; the run keeps one server and its processes.
-use Rattle.std.specs.Prelude.{◌≡◌, ◌≢◌, ℕ, zero, suc, ◌+◌, ◌≤◌, ◌==◌, nat_le, Bool, true, false, List, [], ◌∷◌, ◌++◌, length, take, slice_get, Option, Some, None, is_some, IfSome, IsSomeAnd, All, if◌then◌else◌}
+use Rattle.std.specs.Prelude.{◌≡◌, ◌≢◌, ℕ, zero, suc, ◌+◌, ◌<◌, ◌≤◌, ◌==◌, nat_le, Bool, true, false, List, [], ◌∷◌, ◌++◌, length, take, slice_get, Option, Some, None, is_some, IfSome, IsSomeAnd, All, if◌then◌else◌}
 use Rattle.std.specs.List.{AllByRecursion, flat_map, list_any}
 use Rattle.term_core.specs.declared.atom.AtomId.{AtomId}
 use Rattle.mod_core.specs.declared.code.Module.{Module}
@@ -276,11 +276,15 @@ LogsMatch [] (process ∷ processes) = ⊥
 LogsMatch (line ∷ lines) [] = ⊥
 LogsMatch (line ∷ lines) (process ∷ processes) = IsLogOf line process × LogsMatch lines processes
 
--- nothing is missing: each process of the script has its log and at least one turn, each observer has its snapshots, and no turn and no snapshot is of a
--- generation that was not published
+-- a process has had a turn, and so has each of its spans
+abbrev pub HasTurns : ProcessLog → Type 0
+HasTurns process = (length process.spans ≢ 0) × All (λ span. 0 < span.turns) process.spans
+
+-- nothing is missing: each process of the script has its log and at least one turn, each observer has its snapshots, no span is without a turn, and no turn
+-- and no snapshot is of a generation that was not published
 pub record Complete (s : Script) (log : RunLog) : Type 0 where
   pub processes : LogsMatch (spawns_of 0 s.loaders) log.processes
-  pub turns : All (λ process. length process.spans ≢ 0) log.processes
+  pub turns : All HasTurns log.processes
   pub generations : All (λ process. All (λ span. span.generation ≤ published_count log.journal) process.spans) log.processes
   pub observers : length log.observers ≡ length s.observers
   pub snapshots : AllByRecursion (λ shots. AllByRecursion (λ shot. shot.generation ≤ published_count log.journal) shots) log.observers

@@ -6,6 +6,7 @@ ghost use Rattle.script_core.specs.Sound.{IsScript};
 ghost use Rattle.run_law.specs.Ends.{Closes, IsHistory};
 ghost use Rattle.run_log.specs.ExportedFunctions.{AreExportedFunctions};
 ghost use Rattle.run_log.specs.Legal.{Legal};
+ghost use Rattle.run_log.specs.WellFormed.{IsWellFormed};
 ghost use Rattle.run_log.specs.WholeSpans.{AreWhole};
 ghost use Rattle.inbox.specs.Queues.{QueueId};
 ghost use Rattle.shared_words.specs.Making.{AreMembersBegun, AreWatchersBegun, IsHanding};
@@ -24,6 +25,7 @@ use crate::rounds::run_rounds;
 use code_law::{CodeLaw, Naming};
 use export_table::ExportTable;
 use inbox::{InboxNames, Opening};
+use log_forms::entry_count;
 use observers::observers_begin;
 use run_log::{MfaList, exported_functions};
 use script_core::Script;
@@ -60,6 +62,8 @@ pub fn run_script<R: Threads + Wait + Sync, G: Gate>(
     ensures legal { IfOk result (λ ran. Legal script.now ran.log) }
     // Turns of a process in a row under one generation are one span.
     ensures whole { IfOk result (λ ran. All (λ process. AreWhole process.spans) ran.log.processes) }
+    // A report can show it.
+    ensures formed { IfOk result (λ ran. IsWellFormed script.now.names ran.log) }
     // The words have published the generations of the journal, and have a mark for each turn.
     ensures closes { IfOk result (λ ran. (names : List Mfa) × Closes names script.now ran.log (writer_of ran.closed.writer.seat.me.0)) }
 {
@@ -83,6 +87,7 @@ fn run_over<K: Naming + Send + Sync, R: Threads + Wait + Sync, G: Gate>(
     requires picked { K.names ≡ exports_after [] _functions.now }
     ensures legal { IfOk result (λ ran. Legal script.now ran.log) }
     ensures whole { IfOk result (λ ran. All (λ process. AreWhole process.spans) ran.log.processes) }
+    ensures formed { IfOk result (λ ran. IsWellFormed script.now.names ran.log) }
     ensures closes { IfOk result (λ ran. Closes K.names script.now ran.log (writer_of ran.closed.writer.seat.me.0)) }
 {
     let observers = script.observers.len() as u32;
@@ -115,6 +120,8 @@ pub fn run_on<K: Naming + Send + Sync, R: Threads + Wait + Sync, G: Gate>(
     ensures legal { IfOk result (λ ran. Legal script.now ran.log) }
     // Turns of a process in a row under one generation are one span.
     ensures whole { IfOk result (λ ran. All (λ process. AreWhole process.spans) ran.log.processes) }
+    // A report can show it.
+    ensures formed { IfOk result (λ ran. IsWellFormed script.now.names ran.log) }
     // The words have published the generations of the journal, and have a mark for each turn.
     ensures closes { IfOk result (λ ran. Closes K.names script.now ran.log (writer_of ran.closed.writer.seat.me.0)) }
     // They are the words that were given.
@@ -129,9 +136,12 @@ pub fn run_on<K: Naming + Send + Sync, R: Threads + Wait + Sync, G: Gate>(
         watchers,
     } = parts;
     let onlookers = open_onlookers(alloc, script.observers.as_slice(), watchers)?;
-    run_named::<K, Brand, Brand, R, G>(
+    let ran = run_named::<K, Brand, Brand, R, G>(
         rt, alloc, script, &functions, exports, shared, writer, members, onlookers, gate,
-    )
+    )?;
+    // The proof reads it: what stands in memory is short, so its numbers fit into a report's.
+    let _entries = entry_count(&ran.log.journal);
+    Ok(ran)
 }
 
 /// The run over these words.

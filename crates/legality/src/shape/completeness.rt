@@ -1,23 +1,31 @@
-ghost use Rattle.std.specs.Prelude.{◌≡◌, ◌≢◌, ◌≤◌, ◌↔◌, length, All, IsTrue};
+ghost use Rattle.std.specs.Prelude.{◌≡◌, ◌<◌, ◌≤◌, ◌↔◌, length, All, IsTrue};
 ghost use Rattle.std.specs.List.{AllByRecursion};
-ghost use Rattle.run_log.specs.Legal.{Complete, LogsMatch};
+ghost use Rattle.run_log.specs.Legal.{Complete, HasTurns, LogsMatch};
 ghost use Rattle.script_core.specs.Processes.{spawns_of};
 
 use crate::shape::generations::published_count;
 use crate::shape::matching::has_process_logs;
-use run_log::{ObserverList, ProcessLog, ProcessLogList, RunLog, SnapshotList};
+use run_log::{ObserverList, ProcessLog, ProcessLogList, RunLog, SnapshotList, Span};
 use script_core::Script;
 
-fn has_turn(process: &ProcessLog) -> bool
-    ensures { IsTrue result ↔ (length process.now.spans ≢ 0) }
+/// Whether each span has a turn.
+fn are_turned(spans: &[Span]) -> bool
+    ensures { IsTrue result ↔ All (λ span. 0 < span.turns) spans.now }
 {
-    !process.spans.is_empty()
+    spans.iter().all(|span| 0 < span.turns)
+}
+
+/// Whether the process has a span, and each of its spans a turn.
+fn has_turns(process: &ProcessLog) -> bool
+    ensures { IsTrue result ↔ HasTurns process.now }
+{
+    !process.spans.is_empty() && are_turned(process.spans.as_slice())
 }
 
 fn have_turns(processes: &ProcessLogList) -> bool
-    ensures { IsTrue result ↔ All (λ process. length process.spans ≢ 0) processes.now }
+    ensures { IsTrue result ↔ All HasTurns processes.now }
 {
-    processes.as_slice().iter().all(has_turn)
+    processes.as_slice().iter().all(has_turns)
 }
 
 fn are_spans_within(process: &ProcessLog, published: u64) -> bool
@@ -53,7 +61,7 @@ fn are_observers_within(observers: &ObserverList, published: u64) -> bool
 }
 
 fn have_all_processes(script: &Script, log: &RunLog, published: u64) -> bool
-    ensures { IsTrue result ↔ LogsMatch (spawns_of 0 script.now.loaders) log.now.processes × All (λ process. length process.spans ≢ 0) log.now.processes × All (λ process. All (λ span. span.generation ≤ published) process.spans) log.now.processes }
+    ensures { IsTrue result ↔ LogsMatch (spawns_of 0 script.now.loaders) log.now.processes × All HasTurns log.now.processes × All (λ process. All (λ span. span.generation ≤ published) process.spans) log.now.processes }
 {
     has_process_logs(script, log)
         && have_turns(&log.processes)

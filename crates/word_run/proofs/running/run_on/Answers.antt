@@ -1,5 +1,6 @@
 use Rattle.std.proofs.Common.{[], length, sym, ap, ◌∙◌, arith}
-use Rattle.std.proofs.lemmas.Result.{IfOk-weaker}
+use Rattle.log_forms.proofs.SaidLogs.{well_formed}
+use Rattle.log_forms.proofs.ShortJournals.{fits_of}
 use Rattle.word_run.specs.Beginning.{exports_after}
 use Rattle.word_run.proofs.Made.{begins_run}
 use Rattle.word_run.proofs.Watching.{waiting_observe}
@@ -29,10 +30,18 @@ run_named-requires-clause-onlookers g c κs within =
     c.args.script.now.observers c.as_slice-2.result.now c.as_slice-2.ensures c.requires.enough c.in_ok-onlookers.onlookers.items c.in_ok-onlookers.ensures
 
 pub returns-clause-legal : goal.returns-clause-legal
-returns-clause-legal g c = IfOk-weaker c.run_named.result _ _ (λ ran h. h.legal) c.run_named.ensures.history
+returns-clause-legal g c = c.in_ok-ran.ensures.history.legal
 
 pub returns-clause-whole : goal.returns-clause-whole
-returns-clause-whole g c = IfOk-weaker c.run_named.result _ _ (λ ran h. h.whole) c.run_named.ensures.history
+returns-clause-whole g c = c.in_ok-ran.ensures.history.whole
 
 pub returns-clause-closes : goal.returns-clause-closes
-returns-clause-closes g c = IfOk-weaker c.run_named.result _ _ (λ ran h. h.closes) c.run_named.ensures.history
+returns-clause-closes g c = c.in_ok-ran.ensures.history.closes
+
+-- a report can show it: its numbers fit, since its journal stands in memory
+pub returns-clause-formed : goal.returns-clause-formed
+returns-clause-formed g c =
+    let s = c.args.script.now in
+    let log = c.in_ok-ran.ran.log in
+    let history = c.in_ok-ran.ensures.history in
+    well_formed s c.requires.script log history.legal (fits_of s log c.entry_count-entries.ensures.short) history.whole
