@@ -18,7 +18,8 @@ known_on a b c f g = record { notes = g.notes ∙ f.notes; looks = g.looks ∙ f
 pub waits_same : (a b : WriterView) → b.pairs ≡ a.pairs → KeepsWaits a b
 waits_same a b is pair had = subst (λ pairs. Among pairs pair) (sym is) had
 
-longer_same : (a b : WriterView) → b.pairs ≡ a.pairs → length a.pairs ≤ length b.pairs
+-- no pair is lost where they are as before
+pub longer_same : (a b : WriterView) → b.pairs ≡ a.pairs → length a.pairs ≤ length b.pairs
 longer_same a b is = (let same = ap length is in omega (arith, same))
 
 -- where the view is as before

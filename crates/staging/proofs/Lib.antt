@@ -58,7 +58,7 @@ mod PatchStores
 mod Traced
 mod TraceSteps
 mod TraceRounds
-mod TraceStages
+pub mod TraceStages
 mod Settled
 mod TakenBack
 mod ReleasedStages
@@ -73,6 +73,6 @@ mod CodeComes
 mod SameKeys
 mod CodeBlocks
 mod Committed
-mod Known
+pub mod Known
 mod CommitAnswers
 mod AtFirst

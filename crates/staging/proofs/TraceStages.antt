@@ -1,5 +1,5 @@
 -- A change of what is traced brings nothing in: before its patch the words are at rest.
-use Rattle.std.proofs.Common.{◌≡◌, ◌≤◌, List, [], ◌∷◌, length, Global, refl, sym, subst, arith}
+use Rattle.std.proofs.Common.{◌≡◌, ◌≤◌, List, [], ◌∷◌, length, Global, refl, sym, ap, subst, arith}
 use Rattle.std.specs.Prelude.{Vec}
 use Rattle.term_core.specs.declared.area.AreaRef.{AreaRef}
 use Rattle.term_core.specs.declared.atom.Mfa.{Mfa}
@@ -9,9 +9,10 @@ use Rattle.server_core.specs.declared.change.Change.TheVariants.{SetTrace, Clear
 use Rattle.server_core.specs.ServerState.{ServerState}
 use Rattle.change_laws.specs.Changes.{Incoming, incoming}
 use Rattle.literal_areas.specs.declared.areas.Areas.{Areas}
-use Rattle.staging.specs.declared.stage.Stage.TheVariants.{Placed}
+use Rattle.staging.specs.declared.stage.Stage.{Stage}
+use Rattle.staging.specs.declared.stage.Stage.TheVariants.{Untouched, Placed, Exported, Patching}
 use Rattle.staging.specs.declared.tables.Tables.{Tables}
-use Rattle.staging.specs.Stages.{AreAtRest, HavePlaced, IsCodeChange, StageStands}
+use Rattle.staging.specs.Stages.{AreAtRest, HavePlaced, IsCodeChange, StageStands, areas_at}
 use Rattle.staging.specs.Standing.{StandFor}
 use Rattle.staging.specs.Traced.{IsTraceChange}
 
@@ -36,3 +37,16 @@ rest_placed names s change t areas is had = record {
   stands = subst (λ (x : Areas). StandFor names s x (written_by t.writer)) (sym (none_placed names s change t areas.items (none_comes change is) had.0)) had.0.stands;
   staged = record { index = had.1; terms = had.0.terms; patch = had.0.patch };
 }
+
+-- where nothing comes in, as many have their areas
+few_placed : (taken : List AreaRef) (comes : List Incoming) → length taken ≤ length comes → comes ≡ [] → length taken ≡ length comes
+few_placed taken comes few none =
+    let many = ap length none in
+    omega (arith, few, many)
+
+-- and all that it brings in has its area, as that is nothing
+pub trace_placed : (names : List Mfa) (s : ServerState) (change : Change) (t : Tables) (stage : Stage) → IsTraceChange change → StageStands names s change t stage → length (areas_at stage) ≡ length (incoming change)
+trace_placed names s change t Untouched is had = ap length (sym (none_comes change is))
+trace_placed names s change t (Placed areas) is had = few_placed areas.items (incoming change) had.0.placed.few (none_comes change is)
+trace_placed names s change t (Exported areas) is had = had.whole
+trace_placed names s change t Patching is had = ap length (sym (none_comes change is))

@@ -196,6 +196,11 @@ StepAnswers names s change old new stage (steps.Published generation) = HasPubli
 StepAnswers names s change old new stage (steps.NotYet answer) = Waits names s change old new stage (IsLateFor change old new answer)
 StepAnswers names s change old new stage steps.AwaitRelease = Waits names s change old new stage (NextAwaitsRelease change new.pools (areas_at stage))
 
+-- a change that waits for the counter lacks no block: all that it brings in has its area
+abbrev pub LacksNone : Change → Stage → Step → Type 0
+LacksNone change stage (steps.NotYet answer) = length (areas_at stage) ≡ length (incoming change)
+LacksNone change stage answer = Unit {0}
+
 -- how far a stage is
 abbrev pub stage_number : Stage → ℕ
 stage_number Untouched = 0

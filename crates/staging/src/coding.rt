@@ -5,7 +5,7 @@ ghost use Rattle.progress_words.specs.Tokens.{written_by};
 ghost use Rattle.server_core.specs.Decided.{Fits, change_made};
 ghost use Rattle.server_core.specs.Generations.{AreNumbered};
 ghost use Rattle.code_index.specs.declared.index.Staging.TheVariants as indices;
-ghost use Rattle.staging.specs.Stages.{GoesOn, HavePlaced, HaveExported, IsCodeChange, StageStands, StepAnswers, stage_number};
+ghost use Rattle.staging.specs.Stages.{GoesOn, HavePlaced, HaveExported, IsCodeChange, LacksNone, StageStands, StepAnswers, stage_number};
 ghost use Rattle.staging.specs.Whose.{AreTablesOf, KeepsKnown};
 ghost use Rattle.staging.specs.declared.stage.Stage.TheVariants as stages;
 
@@ -46,6 +46,7 @@ pub fn step_code<K: Naming>(
     ensures names { tables.new.exports ≡ K.names }
     // an answer, or want of memory, after which nothing of the change is left
     ensures ok { IfOk result.1 (StepAnswers K.names server.now change.now tables.old tables.new result.0) }
+    ensures placed { IfOk result.1 (LacksNone change.now result.0) }
     ensures forward { IfOk result.1 (GoesOn (stage_number stage) result.0) }
     ensures err { OnErr result.1 (StageStands K.names server.now change.now tables.new stages.Untouched) }
     ensures err_stage { OnErr result.1 (result.0 ≡ stages.Untouched) }
@@ -86,6 +87,7 @@ fn place_code<K: Naming>(
     ensures names { tables.new.exports ≡ K.names }
     // an answer, or want of memory, after which nothing of the change is left
     ensures ok { IfOk result.1 (StepAnswers K.names server.now change.now tables.old tables.new result.0) }
+    ensures placed { IfOk result.1 (LacksNone change.now result.0) }
     ensures forward { IfOk result.1 (GoesOn 1 result.0) }
     ensures err { OnErr result.1 (StageStands K.names server.now change.now tables.new stages.Untouched) }
     ensures err_stage { OnErr result.1 (result.0 ≡ stages.Untouched) }
@@ -129,6 +131,7 @@ fn commit_code<K: Naming>(
     ensures names { tables.new.exports ≡ K.names }
     // an answer, and never want of memory
     ensures ok { IfOk result.1 (StepAnswers K.names server.now change.now tables.old tables.new result.0) }
+    ensures placed { IfOk result.1 (LacksNone change.now result.0) }
     ensures forward { IfOk result.1 (GoesOn 2 result.0) }
     ensures never { OnErr result.1 ⊥ }
     ensures known { KeepsKnown (written_by tables.old.writer) (written_by tables.new.writer) }

@@ -10,7 +10,7 @@ ghost use Rattle.term_table.specs.Keys.{key_of};
 ghost use Rattle.staging.specs.Keyed.{HasKeyWord, area_word, key_change};
 ghost use Rattle.change_laws.specs.Changes.{incoming};
 ghost use Rattle.staging.specs.Replaced.{HaveKeyed, HaveReplaced, former_of};
-ghost use Rattle.staging.specs.Stages.{GoesOn, HasPublished, HavePlaced, IsKeyChange, IsLateFor, StageStands, StepAnswers, stage_number};
+ghost use Rattle.staging.specs.Stages.{GoesOn, HasPublished, HavePlaced, IsKeyChange, IsLateFor, LacksNone, StageStands, StepAnswers, stage_number};
 ghost use Rattle.staging.specs.Whose.{AreTablesOf, KeepsKnown};
 ghost use Rattle.staging.specs.declared.stage.Stage.TheVariants as stages;
 
@@ -97,6 +97,7 @@ pub fn step_key<K: Naming>(
     ensures names { tables.new.exports ≡ K.names }
     // an answer, or want of memory, after which nothing of the change is left
     ensures ok { IfOk result.1 (StepAnswers K.names server.now change.now tables.old tables.new result.0) }
+    ensures placed { IfOk result.1 (LacksNone change.now result.0) }
     ensures forward { IfOk result.1 (GoesOn (stage_number stage) result.0) }
     ensures err { OnErr result.1 (StageStands K.names server.now change.now tables.new stages.Untouched) }
     ensures err_stage { OnErr result.1 (result.0 ≡ stages.Untouched) }
@@ -135,6 +136,7 @@ fn place_key<K: Naming>(
     ensures names { tables.new.exports ≡ K.names }
     // an answer, or want of memory, after which nothing of the change is left
     ensures ok { IfOk result.1 (StepAnswers K.names server.now change.now tables.old tables.new result.0) }
+    ensures placed { IfOk result.1 (LacksNone change.now result.0) }
     ensures forward { IfOk result.1 (GoesOn 1 result.0) }
     ensures err { OnErr result.1 (StageStands K.names server.now change.now tables.new stages.Untouched) }
     ensures err_stage { OnErr result.1 (result.0 ≡ stages.Untouched) }
@@ -174,6 +176,7 @@ fn publish_staged<K: Naming>(
     ensures names { tables.new.exports ≡ K.names }
     // an answer, and never want of memory
     ensures ok { IfOk result.1 (StepAnswers K.names server.now change.now tables.old tables.new result.0) }
+    ensures placed { IfOk result.1 (LacksNone change.now result.0) }
     ensures forward { IfOk result.1 (GoesOn 1 result.0) }
     ensures never { OnErr result.1 ⊥ }
     ensures known { KeepsKnown (written_by tables.old.writer) (written_by tables.new.writer) }

@@ -4,7 +4,7 @@ ghost use Rattle.std.specs.Prelude.{◌≡◌, ◌<◌, ◌^◌, false, length, 
 ghost use Rattle.progress_words.specs.Tokens.{written_by};
 ghost use Rattle.server_core.specs.Decided.{Fits, change_made};
 ghost use Rattle.server_core.specs.Generations.{AreNumbered};
-ghost use Rattle.staging.specs.Stages.{AreAtRest, GoesOn, IsCodeChange, IsStaged, LeavesView, StageStands, StepAnswers, stage_number};
+ghost use Rattle.staging.specs.Stages.{AreAtRest, GoesOn, IsCodeChange, IsStaged, LacksNone, LeavesView, StageStands, StepAnswers, stage_number};
 ghost use Rattle.staging.specs.Whose.{AreTablesOf, KeepsKnown};
 ghost use Rattle.staging.specs.declared.stage.Stage.TheVariants as stages;
 
@@ -49,6 +49,8 @@ pub fn step<K: Naming>(
     ensures err { OnErr result.1 (AreAtRest K.names server.now tables.new) }
     ensures err_stage { OnErr result.1 (result.0 ≡ stages.Untouched) }
     ensures err_published { OnErr result.1 ((written_by tables.new.writer).published ≡ (written_by tables.old.writer).published) }
+    // a change that waits for the counter lacks no block
+    ensures placed { IfOk result.1 (LacksNone change.now result.0) }
     // a change that waits is not behind the stage that was given
     ensures forward { IfOk result.1 (GoesOn (stage_number stage) result.0) }
     // and the writer keeps what it knew
