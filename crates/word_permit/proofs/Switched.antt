@@ -29,6 +29,7 @@ use Rattle.staging.specs.Stages.{AreAtRest, AreSettling, StageStands, stage_numb
 use Rattle.staging.specs.Traced.{HasSwitched, IsPatchLate, IsTraceChange, NeedGoesOn, Settles, TraceAnswers}
 use Rattle.staging.specs.Whose.{AreTablesOf, KeepsKnown}
 use Rattle.staging.proofs.PatchNeeds.{late_from, need_on}
+use Rattle.staging.proofs.TraceStages.{trace_placed}
 use Rattle.write_permit.specs.declared.book.Book.{Book}
 use Rattle.write_permit.specs.declared.loader_run.LoaderRun.{LoaderRun}
 use Rattle.write_permit.specs.declared.holder.Holder.TheVariants.{Free, Held, Tracing}
@@ -111,7 +112,7 @@ module _ (names : List Mfa) (table : TableId) (opening : Opening) (b : WordBook)
           subst (λ x. Switched names table opening who d b x (steps.NotYet answer)) (sym left)
           (record {
             ok = record {
-              waits = late_waits names table opening b had who d held known none look modules same journal t of_table exports keeps stage (inr traces) published stands answer (late_patch d.change b.tables t answer traces why);
+              waits = late_waits names table opening b had who d held known none look modules same journal t of_table exports keeps stage (inr traces) published stands answer (trace_placed names b.plain.server d.change t stage traces stands) (late_patch d.change b.tables t answer traces why);
               waiting = record { decision = d; stage = stage };
               is = refl;
               decision = refl;

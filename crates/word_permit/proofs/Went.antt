@@ -1,11 +1,12 @@
 -- What a step of a decided command leaves of a permit's book, by what the words answered.
-use Rattle.std.proofs.Common.{◌≡◌, ℕ, ◌≤◌, ◌⊎◌, inl, inr, List, [], ◌∷◌, ◌++◌, slice_get, Option, Some, None, is_some, true, IfSome, IsSomeAnd, IfOk, OnErr, Result, Ok, Err, All, option_map, if◌then◌else◌, refl, sym, ap, subst, ◌∙◌}
+use Rattle.std.proofs.Common.{◌≡◌, ℕ, ◌≤◌, ◌⊎◌, inl, inr, List, [], ◌∷◌, ◌++◌, length, slice_get, Option, Some, None, is_some, true, IfSome, IsSomeAnd, IfOk, OnErr, Result, Ok, Err, All, option_map, if◌then◌else◌, refl, sym, ap, subst, ◌∙◌}
 use Rattle.atomic_table.specs.Seated.{TableId}
 use Rattle.term_core.specs.declared.atom.Mfa.{Mfa}
 use Rattle.term_core.specs.declared.no_memory.NoMemory.{NoMemory}
 use Rattle.shared_words.specs.declared.opening.Opening.{Opening}
 use Rattle.progress_words.specs.declared.answers.NotYet as late
 use Rattle.progress_words.specs.Tokens.{written_by}
+use Rattle.change_laws.specs.Changes.{incoming}
 use Rattle.change_laws.specs.Names.{IsNumbered}
 use Rattle.server_core.specs.declared.change.Change.{Change}
 use Rattle.server_core.specs.declared.change.Change.TheVariants.{BringIn, MakeOld, HoldWord, HoldArea, Forget}
@@ -21,7 +22,7 @@ use Rattle.staging.specs.declared.stage.Step.{Step}
 use Rattle.staging.specs.declared.stage.Step.TheVariants as steps
 use Rattle.staging.specs.declared.tables.Tables.{Tables}
 use Rattle.staging.specs.Placed.{NextAwaitsRelease}
-use Rattle.staging.specs.Stages.{AreAtRest, HasPublished, IsCodeChange, IsKeyChange, IsLateFor, IsStaged, StageStands, StepAnswers, areas_at}
+use Rattle.staging.specs.Stages.{AreAtRest, HasPublished, IsCodeChange, IsKeyChange, IsLateFor, IsStaged, LacksNone, StageStands, StepAnswers, areas_at}
 use Rattle.staging.specs.Traced.{IsTraceChange}
 use Rattle.server_core.specs.Generations.{generation_of}
 use Rattle.staging.specs.Whose.{AreTablesOf, KeepsKnown}
@@ -129,11 +130,11 @@ module _ (names : List Mfa) (table : TableId) (opening : Opening) (b : WordBook)
       as_decided : IfSome b.waiting (λ before. d ≡ before.decision)
       as_decided = subst (λ (o : Option Waiting). IfSome o (λ before. d ≡ before.decision)) (sym none) tt
 
-      pub late_waits : (answer : late.NotYet) → IsLateBy d.change b.tables t answer → HasWaited b waiting (IsLateStill b waiting answer)
-      late_waits answer why = record { same = refl; published = published; waits = (_, refl); forward = none_before b.waiting waiting.waiting none; why = record { waiting = record { decision = d; stage = stage }; waits = refl; same = as_decided; late = why } }
+      pub late_waits : (answer : late.NotYet) → length (areas_at stage) ≡ length (incoming d.change) → IsLateBy d.change b.tables t answer → HasWaited b waiting (IsLateStill b waiting answer)
+      late_waits answer placed why = record { same = refl; published = published; waits = (_, refl); forward = none_before b.waiting waiting.waiting none; why = record { waiting = record { decision = d; stage = stage }; waits = refl; same = as_decided; placed = placed; late = why } }
 
-      is_late : (c : WordBook) (told : Result CommandStep NoMemory) (answer : late.NotYet) → IsLateBy d.change b.tables t answer → told ≡ Ok (NotYet answer) → c ≡ waiting → Went names table opening who d b c told
-      is_late c told answer why = left_waiting c told (NotYet answer) (inl (late_waits answer why))
+      is_late : (c : WordBook) (told : Result CommandStep NoMemory) (answer : late.NotYet) → length (areas_at stage) ≡ length (incoming d.change) → IsLateBy d.change b.tables t answer → told ≡ Ok (NotYet answer) → c ≡ waiting → Went names table opening who d b c told
+      is_late c told answer placed why = left_waiting c told (NotYet answer) (inl (late_waits answer placed why))
 
       awaits_release : (c : WordBook) (told : Result CommandStep NoMemory) → NextAwaitsRelease d.change t.pools (areas_at stage) → told ≡ Ok AwaitRelease → c ≡ waiting → Went names table opening who d b c told
       awaits_release c told why = left_waiting c told AwaitRelease (record { same = refl; published = published; waits = (_, refl); forward = none_before b.waiting waiting.waiting none; why = record { waiting = record { decision = d; stage = stage }; waits = refl; same = as_decided; lacks = why } })
@@ -219,8 +220,8 @@ module _ (names : List Mfa) (table : TableId) (opening : Opening) (b : WordBook)
 
       -- whatever the words answered
       pub went_on : (staged : IsStaged d.change) (c : WordBook) (stage : Stage) (step : Result Step NoMemory) (told : Result CommandStep NoMemory) → IsSettled who d.change stage after stepped c step told
-          → IfOk step (StepAnswers names b.plain.server d.change b.tables t stage) → OnErr step (AreAtRest names b.plain.server t) → OnErr step (PublishesNone b stepped) → Went names table opening who d b c told
-      went_on staged c stage (Ok (steps.Published generation)) told settled ok rest same_published = is_done (staged_publishes b.plain.server d.change staged) generation ok c settled.0 settled.1.1.0 settled.1.1.1 told settled.1.0
-      went_on staged c stage (Ok (steps.NotYet answer)) told settled ok rest same_published = is_late stage (inl staged) ok.published ok.stands c told answer (late_by d.change b.tables t answer staged ok.why) settled.0 (settled.1 b.plain.journal (entry_for who d) more)
-      went_on staged c stage (Ok steps.AwaitRelease) told settled ok rest same_published = awaits_release stage (inl staged) ok.published ok.stands c told ok.why settled.0 (settled.1 b.plain.journal (entry_for who d) more)
-      went_on staged c stage (Err fault) told settled ok rest same_published = taken_back c told fault same_published rest settled.0 (settled.1 b.plain.journal (entry_for who d) more)
+          → IfOk step (StepAnswers names b.plain.server d.change b.tables t stage) → IfOk step (LacksNone d.change stage) → OnErr step (AreAtRest names b.plain.server t) → OnErr step (PublishesNone b stepped) → Went names table opening who d b c told
+      went_on staged c stage (Ok (steps.Published generation)) told settled ok placed rest same_published = is_done (staged_publishes b.plain.server d.change staged) generation ok c settled.0 settled.1.1.0 settled.1.1.1 told settled.1.0
+      went_on staged c stage (Ok (steps.NotYet answer)) told settled ok placed rest same_published = is_late stage (inl staged) ok.published ok.stands c told answer placed (late_by d.change b.tables t answer staged ok.why) settled.0 (settled.1 b.plain.journal (entry_for who d) more)
+      went_on staged c stage (Ok steps.AwaitRelease) told settled ok placed rest same_published = awaits_release stage (inl staged) ok.published ok.stands c told ok.why settled.0 (settled.1 b.plain.journal (entry_for who d) more)
+      went_on staged c stage (Err fault) told settled ok placed rest same_published = taken_back c told fault same_published rest settled.0 (settled.1 b.plain.journal (entry_for who d) more)

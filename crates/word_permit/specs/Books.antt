@@ -1,11 +1,12 @@
 -- What a permit keeps over the words that all threads share, and what each call leaves of it.
 -- Source: this project's profile; the phases of a load are those of erts internal documentation, CodeLoading.
-use Rattle.std.specs.Prelude.{◌≡◌, ◌⊎◌, ℕ, ◌≤◌, Bool, List, [], ◌∷◌, ◌++◌, Option, Some, None, IfSome, IsSomeAnd, All}
+use Rattle.std.specs.Prelude.{◌≡◌, ◌⊎◌, ℕ, ◌≤◌, Bool, List, [], ◌∷◌, ◌++◌, Option, Some, None, IfSome, IsSomeAnd, All, length}
 use Rattle.atomic_table.specs.Seated.{TableId}
 use Rattle.term_core.specs.declared.atom.Mfa.{Mfa}
 use Rattle.shared_words.specs.declared.opening.Opening.{Opening}
 use Rattle.progress_words.specs.declared.answers.NotYet as told
 use Rattle.progress_words.specs.Tokens.{written_by}
+use Rattle.change_laws.specs.Changes.{incoming}
 use Rattle.change_laws.specs.Names.{IsNumbered}
 use Rattle.server_core.specs.declared.change.Change.{Change}
 use Rattle.server_core.specs.declared.change.Change.TheVariants.{SetTrace, ClearTrace}
@@ -134,6 +135,8 @@ pub record IsLateStill (old new : WordBook) (answer : told.NotYet) : Type 0 wher
   pub waiting : Waiting
   pub waits : new.waiting ≡ Some waiting
   pub same : IfSome old.waiting (λ before. waiting.decision ≡ before.decision)
+  -- it lacks no block: all that it brings in has its area
+  pub placed : length (areas_at waiting.stage) ≡ length (incoming waiting.decision.change)
   pub late : IsLateBy waiting.decision.change old.tables new.tables answer
 
 -- the command waits on as it was decided, for a block: in the pool of what comes in next none is free, and one waits for its release

@@ -181,7 +181,7 @@ pub record IsLingerKept (serial process turn : ℕ) (known new : WriterView) (li
   pub linger_is : linger ≡ record { process = process; turn = turn }
   pub looks : new.looks ≡ with_lingering known.looks (lingering_of known process serial turn)
 
--- what a look found ends the command: where it was clear the old code goes, and a purge tells whom that has killed; where it named a process, a soft
+-- what a look found ends the command: where it was clear the old code goes, and a purge tells whether that has killed one; where it named a process, a soft
 -- purge tells that this one lingers, and a purge does not end
 abbrev pub IsEndedBy : ℕ → Scan → WriterView → WriterView → Cmd → Type 0
 IsEndedBy serial (scans.Clear killed) known new (cmds.SoftPurge name None) = IsCodeDropped serial known new

@@ -38,7 +38,7 @@ returns-in-Ok-clause-ok g c =
     let w =
     went_on g.K.Naming.names _ _ c.args.book.now c.requires.tables c.args.who c.args.waiting.decision c.requires.holds c.requires.decided c.requires.none c.requires.look c.take_room.new.modules c.take_room.ensures.table c.take_room.new.journal c.step-stage.new.tables
     c.step-stage.ensures.tables c.step-stage.ensures.names c.step-stage.ensures.known (subst (λ (e : Entry). new_modules e.cmd ≤ c.take_room.new.modules.room) c.entry_of-entry.ensures c.in-Ok.ensures.room) (c.in-Ok.ensures.ok ∙ ap (λ (e : Entry). c.args.book.now.plain.journal ++ e ∷ []) c.entry_of-entry.ensures) c.after_next-after.result c.after_next-after.ensures.counted c.requires.staged
-    c.settle.new.book c.step-stage.result.0 c.step-stage.result.1 c.settle.result c.settle.ensures c.step-stage.ensures.ok c.step-stage.ensures.err c.step-stage.ensures.err_published in
+    c.settle.new.book c.step-stage.result.0 c.step-stage.result.1 c.settle.result c.settle.ensures c.step-stage.ensures.ok c.step-stage.ensures.placed c.step-stage.ensures.err c.step-stage.ensures.err_published in
     w.ok
 
 pub returns-in-Ok-clause-decision : goal.returns-in-Ok-clause-decision
@@ -46,7 +46,7 @@ returns-in-Ok-clause-decision g c =
     let w =
     went_on g.K.Naming.names _ _ c.args.book.now c.requires.tables c.args.who c.args.waiting.decision c.requires.holds c.requires.decided c.requires.none c.requires.look c.take_room.new.modules c.take_room.ensures.table c.take_room.new.journal c.step-stage.new.tables
     c.step-stage.ensures.tables c.step-stage.ensures.names c.step-stage.ensures.known (subst (λ (e : Entry). new_modules e.cmd ≤ c.take_room.new.modules.room) c.entry_of-entry.ensures c.in-Ok.ensures.room) (c.in-Ok.ensures.ok ∙ ap (λ (e : Entry). c.args.book.now.plain.journal ++ e ∷ []) c.entry_of-entry.ensures) c.after_next-after.result c.after_next-after.ensures.counted c.requires.staged
-    c.settle.new.book c.step-stage.result.0 c.step-stage.result.1 c.settle.result c.settle.ensures c.step-stage.ensures.ok c.step-stage.ensures.err c.step-stage.ensures.err_published in
+    c.settle.new.book c.step-stage.result.0 c.step-stage.result.1 c.settle.result c.settle.ensures c.step-stage.ensures.ok c.step-stage.ensures.placed c.step-stage.ensures.err c.step-stage.ensures.err_published in
     w.decision
 
 pub returns-in-Ok-clause-err : goal.returns-in-Ok-clause-err
@@ -54,7 +54,7 @@ returns-in-Ok-clause-err g c =
     let w =
     went_on g.K.Naming.names _ _ c.args.book.now c.requires.tables c.args.who c.args.waiting.decision c.requires.holds c.requires.decided c.requires.none c.requires.look c.take_room.new.modules c.take_room.ensures.table c.take_room.new.journal c.step-stage.new.tables
     c.step-stage.ensures.tables c.step-stage.ensures.names c.step-stage.ensures.known (subst (λ (e : Entry). new_modules e.cmd ≤ c.take_room.new.modules.room) c.entry_of-entry.ensures c.in-Ok.ensures.room) (c.in-Ok.ensures.ok ∙ ap (λ (e : Entry). c.args.book.now.plain.journal ++ e ∷ []) c.entry_of-entry.ensures) c.after_next-after.result c.after_next-after.ensures.counted c.requires.staged
-    c.settle.new.book c.step-stage.result.0 c.step-stage.result.1 c.settle.result c.settle.ensures c.step-stage.ensures.ok c.step-stage.ensures.err c.step-stage.ensures.err_published in
+    c.settle.new.book c.step-stage.result.0 c.step-stage.result.1 c.settle.result c.settle.ensures c.step-stage.ensures.ok c.step-stage.ensures.placed c.step-stage.ensures.err c.step-stage.ensures.err_published in
     w.err
 
 pub returns-in-Ok-clause-book : goal.returns-in-Ok-clause-book
@@ -62,7 +62,7 @@ returns-in-Ok-clause-book g c =
     let w =
     went_on g.K.Naming.names _ _ c.args.book.now c.requires.tables c.args.who c.args.waiting.decision c.requires.holds c.requires.decided c.requires.none c.requires.look c.take_room.new.modules c.take_room.ensures.table c.take_room.new.journal c.step-stage.new.tables
     c.step-stage.ensures.tables c.step-stage.ensures.names c.step-stage.ensures.known (subst (λ (e : Entry). new_modules e.cmd ≤ c.take_room.new.modules.room) c.entry_of-entry.ensures c.in-Ok.ensures.room) (c.in-Ok.ensures.ok ∙ ap (λ (e : Entry). c.args.book.now.plain.journal ++ e ∷ []) c.entry_of-entry.ensures) c.after_next-after.result c.after_next-after.ensures.counted c.requires.staged
-    c.settle.new.book c.step-stage.result.0 c.step-stage.result.1 c.settle.result c.settle.ensures c.step-stage.ensures.ok c.step-stage.ensures.err c.step-stage.ensures.err_published in
+    c.settle.new.book c.step-stage.result.0 c.step-stage.result.1 c.settle.result c.settle.ensures c.step-stage.ensures.ok c.step-stage.ensures.placed c.step-stage.ensures.err c.step-stage.ensures.err_published in
     w.book
 
 pub returns-in-Err-clause-err : goal.returns-in-Err-clause-err

@@ -4,7 +4,8 @@ use Rattle.shared_words.specs.declared.view.WriterView.{WriterView}
 use Rattle.shared_words.specs.Lingering.{lingering_of}
 use Rattle.shared_words.specs.Seats.{writer_of}
 use Rattle.progress_words.specs.Tokens.{written_by}
-use Rattle.word_permit.proofs.Looked.{as_many, linger_same}
+use Rattle.staging.proofs.Known.{longer_same}
+use Rattle.word_permit.proofs.Looked.{linger_same}
 use Rattle.word_permit.proofs.Lingered.{book_lingered, if_kept, if_left, if_lingers, may_linger}
 use Rattle.word_permit.proofs.looking.keep_lingering.Goals as goal
 
@@ -39,7 +40,7 @@ returns-clause-same g c =
       plain = refl;
       published = ap (λ (w : WriterView). w.published) same;
       waiting = refl;
-      longer = as_many (written_by c.args.book.now.tables.writer) (written_by c.load_lingering-word.new.writer) (ap (λ (w : WriterView). w.pairs) same);
+      longer = longer_same (written_by c.args.book.now.tables.writer) (written_by c.load_lingering-word.new.writer) (ap (λ (w : WriterView). w.pairs) same);
     }
 
 pub returns-clause-book : goal.returns-clause-book

@@ -2,7 +2,8 @@
 use Rattle.std.proofs.Common.{refl, ap}
 use Rattle.shared_words.specs.declared.view.WriterView.{WriterView}
 use Rattle.progress_words.specs.Tokens.{written_by}
-use Rattle.word_permit.proofs.Looked.{as_many, found_newest, look_may, some_published, wait_newest, wait_over}
+use Rattle.staging.proofs.Known.{longer_same}
+use Rattle.word_permit.proofs.Looked.{found_newest, look_may, some_published, wait_newest, wait_over}
 use Rattle.word_permit.proofs.PurgeCalls.{gone_now}
 use Rattle.word_permit.proofs.Quiet.{book_looked}
 use Rattle.word_permit.proofs.looking.look_through_frames.Goals as goal
@@ -26,7 +27,7 @@ returns-clause-same g c = record {
   plain = refl;
   published = ap (λ (w : WriterView). w.published) c.scan.ensures.more.same;
   waiting = refl;
-  longer = as_many (written_by c.args.book.now.tables.writer) (written_by c.scan.new.writer) (ap (λ (w : WriterView). w.pairs) c.scan.ensures.more.same);
+  longer = longer_same (written_by c.args.book.now.tables.writer) (written_by c.scan.new.writer) (ap (λ (w : WriterView). w.pairs) c.scan.ensures.more.same);
 }
 
 pub returns-clause-book : goal.returns-clause-book

@@ -2,7 +2,7 @@
 use Rattle.std.proofs.Common.{refl}
 use Rattle.std.proofs.lemmas.Result.{IfOk-weaker}
 use Rattle.word_permit.proofs.Grown.{grown_any}
-use Rattle.word_permit.proofs.PurgeCalls.{goes_apart, purges_next}
+use Rattle.word_permit.proofs.PurgeCommands.{goes_apart, purges_next}
 use Rattle.word_permit.proofs.Runs.{book_of_run, of_run, over_words}
 use Rattle.word_permit.proofs.operations.advance_run.Goals as goal
 

@@ -3,7 +3,8 @@ use Rattle.std.proofs.Common.{refl, ap, arith}
 use Rattle.shared_words.specs.declared.view.WriterView.{WriterView}
 use Rattle.progress_words.specs.Tokens.{written_by}
 use Rattle.breakpoints.proofs.Others.{counted_loads}
-use Rattle.word_permit.proofs.Awaiting.{counter_rises, known_loaded, need_taken}
+use Rattle.staging.proofs.Known.{known_loaded}
+use Rattle.word_permit.proofs.Awaiting.{counter_rises, need_taken}
 use Rattle.word_permit.proofs.Looked.{looks_loaded}
 use Rattle.word_permit.proofs.Quiet.{book_loaded, look_asked}
 use Rattle.word_permit.proofs.pumping.take_need.Goals as goal

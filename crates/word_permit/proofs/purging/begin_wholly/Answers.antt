@@ -5,7 +5,8 @@ use Rattle.script_core.specs.declared.script.ScriptCmd.TheVariants as commands
 use Rattle.progress_words.specs.Tokens.{written_by}
 use Rattle.write_permit.specs.Book.{shown}
 use Rattle.write_permit.proofs.Ends.{purges_code}
-use Rattle.word_permit.proofs.PurgeCalls.{code_none, ends_ok, held_holds, module_found, next_purges, none_waits, whole_ends, whole_leaves, whole_tells, whole_unlooked}
+use Rattle.word_permit.proofs.PurgeCalls.{ends_ok, whole_unlooked}
+use Rattle.word_permit.proofs.PurgeCommands.{code_none, held_holds, module_found, next_purges, none_waits, whole_ends, whole_leaves, whole_tells}
 use Rattle.word_permit.proofs.purging.begin_wholly.Goals as goal
 
 pub doom_code-requires-clause-next : goal.doom_code-requires-clause-next

@@ -4,7 +4,8 @@ use Rattle.progress_words.specs.Tokens.{written_by}
 use Rattle.script_core.specs.declared.script.ScriptCmd.TheVariants as commands
 use Rattle.write_permit.specs.Book.{shown}
 use Rattle.write_permit.specs.declared.holder.Holder.TheVariants as holders
-use Rattle.word_permit.proofs.PurgeCalls.{code_still, found_ok, holder_still, late_behind, next_purges, none_waits, purging_holds, second_begun, second_next, taken_behind}
+use Rattle.word_permit.proofs.PurgeCalls.{code_still, found_ok, holder_still, late_behind, taken_behind}
+use Rattle.word_permit.proofs.PurgeCommands.{next_purges, none_waits, purging_holds, second_begun, second_next}
 use Rattle.word_permit.proofs.purging.close_purge.Goals as goal
 
 pub look_for_code-requires-clause-none : goal.look_for_code-requires-clause-none

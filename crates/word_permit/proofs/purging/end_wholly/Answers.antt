@@ -3,7 +3,8 @@ use Rattle.std.proofs.Common.{refl}
 use Rattle.server_core.specs.declared.command.Cmd.TheVariants as cmds
 use Rattle.progress_words.specs.Tokens.{written_by}
 use Rattle.write_permit.proofs.EndBooks.{close_ends}
-use Rattle.word_permit.proofs.PurgeCalls.{clear_whole, found_as, found_clear, looks_ok, none_looked, purging_holds, whole_told}
+use Rattle.word_permit.proofs.PurgeCalls.{clear_whole, found_as, found_clear, looks_ok, none_looked}
+use Rattle.word_permit.proofs.PurgeCommands.{purging_holds, whole_told}
 use Rattle.word_permit.proofs.purging.end_wholly.Goals as goal
 
 pub drop_code-requires-clause-holds : goal.drop_code-requires-clause-holds

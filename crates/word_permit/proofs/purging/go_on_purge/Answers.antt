@@ -7,7 +7,7 @@ use Rattle.write_permit.specs.Book.{HoldsJust, shown}
 use Rattle.write_permit.specs.Permit.{holder_of}
 use Rattle.write_permit.proofs.EndBooks.{held_by, purging_by, second_code}
 use Rattle.write_permit.proofs.Ends.{purges_code}
-use Rattle.word_permit.proofs.PurgeCalls.{tracing_apart}
+use Rattle.word_permit.proofs.PurgeCommands.{tracing_apart}
 use Rattle.word_permit.proofs.purging.go_on_purge.Goals as goal
 
 pub unreachable-requires : goal.unreachable-requires

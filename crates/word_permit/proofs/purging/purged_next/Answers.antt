@@ -2,7 +2,7 @@
 use Rattle.std.proofs.Common.{◌≡◌, true, IsSomeAnd, sym, subst}
 use Rattle.write_permit.specs.Book.{shown}
 use Rattle.write_permit.specs.Permit.{needs_permission}
-use Rattle.word_permit.proofs.PurgeCalls.{needs_next, none_purged, some_purged}
+use Rattle.word_permit.proofs.PurgeCommands.{needs_next, none_purged, some_purged}
 use Rattle.word_permit.proofs.purging.purged_next.Goals as goal
 
 pub unreachable-requires : goal.unreachable-requires

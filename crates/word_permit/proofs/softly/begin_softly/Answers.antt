@@ -5,7 +5,8 @@ use Rattle.script_core.specs.declared.script.ScriptCmd.TheVariants as commands
 use Rattle.progress_words.specs.Tokens.{written_by}
 use Rattle.write_permit.specs.Book.{shown}
 use Rattle.write_permit.proofs.Ends.{purges_code}
-use Rattle.word_permit.proofs.PurgeCalls.{code_none, ends_ok, held_holds, module_found, next_purges, none_waits, soft_ends, soft_leaves, soft_tells, soft_unlooked}
+use Rattle.word_permit.proofs.PurgeCalls.{ends_ok, soft_unlooked}
+use Rattle.word_permit.proofs.PurgeCommands.{code_none, held_holds, module_found, next_purges, none_waits, soft_ends, soft_leaves, soft_tells}
 use Rattle.word_permit.proofs.softly.begin_softly.Goals as goal
 
 pub purge_softly-requires-clause-next : goal.purge_softly-requires-clause-next

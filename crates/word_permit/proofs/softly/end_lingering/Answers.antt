@@ -1,6 +1,6 @@
 -- The old code stays, and the entry tells who lingers in it.
 use Rattle.progress_words.specs.Tokens.{written_by}
-use Rattle.word_permit.proofs.PurgeCalls.{held_holds, linger_ends, linger_leaves, linger_tells}
+use Rattle.word_permit.proofs.PurgeCommands.{held_holds, linger_ends, linger_leaves, linger_tells}
 use Rattle.word_permit.proofs.softly.end_lingering.Goals as goal
 
 pub end_quietly-requires-clause-holds : goal.end_quietly-requires-clause-holds

@@ -5,7 +5,8 @@ use Rattle.script_core.specs.declared.script.ScriptCmd.TheVariants as commands
 use Rattle.write_permit.specs.declared.holder.Holder.TheVariants as holders
 use Rattle.write_permit.specs.Book.{shown}
 use Rattle.progress_words.specs.Tokens.{written_by}
-use Rattle.word_permit.proofs.PurgeCalls.{clear_soft, code_still, found_as, found_clear, held_holds, holder_still, kept_still, looks_ok, named_soft, next_still, none_looked, soft_ends, soft_told, taken_behind}
+use Rattle.word_permit.proofs.PurgeCalls.{clear_soft, code_still, found_as, found_clear, holder_still, kept_still, looks_ok, named_soft, next_still, none_looked, taken_behind}
+use Rattle.word_permit.proofs.PurgeCommands.{held_holds, soft_ends, soft_told}
 use Rattle.word_permit.proofs.softly.end_softly.Goals as goal
 
 pub drop_code-requires-clause-holds : goal.drop_code-requires-clause-holds
