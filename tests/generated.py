@@ -330,7 +330,7 @@ def made_scripts():
 
 def trials():
     """Each process of a made script prints eight lines and ends as normal. Loader J spawns one at every eighth place below 256."""
-    for seed, size, schedulers in ((1, 6, 2), (1, 16, 1), (1, 16, 16), (9, 500, 4), (1, 2_000, 16), (3, 4_000, 1)):
+    for seed, size, schedulers in ((1, 6, 2), (1, 16, 1), (1, 16, 2), (1, 16, 16), (9, 500, 4), (1, 2_000, 16), (3, 4_000, 1)):
         loaders = ((size + 1) // 2, size // 2)
         processes = sum(min(count, 256) // 8 for count in loaders)
         words = ["trial", "--seed", str(seed), "--size", str(size), "--schedulers", str(schedulers)]

@@ -153,6 +153,7 @@ fn refuses(rt: &(impl AllocGlobal + Abort), text: &str, fault: TermFault) {
 #[test]
 fn integers_out_of_range_have_their_place(rt: HostRuntime) {
     let cases = [
+        ("576460752303423488", 0),
         ("-576460752303423489", 0),
         ("{1,576460752303423488}", 3),
         ("[{},-9999999999999999999999,1152921504606846976]", 4),
