@@ -86,15 +86,22 @@ pub fn outcome_of<R: Threads + Wait + Sync + AllocGlobal + Abort>(
 ) -> Result<Outcome, NoMemory> {
     let outcome = called(rt, words, input, outside)?;
     if !words.is_empty() && words[0] == "run" && outcome.status == 0 {
-        let mut both = ByteList::from_slice(rt.alloc(), input)?;
-        both.extend_from_slice(outcome.got.as_slice())?;
-        let check = called(rt, CHECK, both.as_slice(), CALM)?;
-        assert!(rt;
-            check.got.as_slice() == b"lawful\n".as_slice(),
-            "the check of a run"
-        );
+        let lawful = is_lawful(rt, input, outcome.got.as_slice())?;
+        assert!(rt; lawful, "the check of a run");
     }
     Ok(outcome)
+}
+
+/// Whether a check answers that the report behind this script is lawful.
+pub fn is_lawful<R: Threads + Wait + Sync + AllocGlobal>(
+    rt: &R,
+    script: &[u8],
+    report: &[u8],
+) -> Result<bool, NoMemory> {
+    let mut both = ByteList::from_slice(rt.alloc(), script)?;
+    both.extend_from_slice(report)?;
+    let check = called(rt, CHECK, both.as_slice(), CALM)?;
+    Ok(check.got.as_slice() == b"lawful\n".as_slice())
 }
 
 /// How many generations a table has published.
