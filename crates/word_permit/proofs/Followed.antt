@@ -92,7 +92,7 @@ staged_left change (inr trace) other = absurd (other trace)
 answers_without : (who : ℕ) (b : WordBook) (o : Option Waiting) (c : WordBook) (step : CommandStep) → ((w : Waiting) → c.waiting ≡ Some w → IfSome b.waiting (λ before. w.decision ≡ before.decision)) → StageGoesOn b.waiting c.waiting → OpAnswers who (with_waiting b o) c step → OpAnswers who b c step
 answers_without who b o c (Done applied) same on h = h
 answers_without who b o c (NotYet answer) same on (inl h) =
-    inl (record { same = h.same; published = h.published; waits = h.waits; forward = on; why = record { waiting = h.why.waiting; waits = h.why.waits; same = same h.why.waiting h.why.waits; late = h.why.late } })
+    inl (record { same = h.same; published = h.published; waits = h.waits; forward = on; why = record { waiting = h.why.waiting; waits = h.why.waits; same = same h.why.waiting h.why.waits; late = h.why.late; placed = h.why.placed } })
 answers_without who b o c (NotYet answer) same on (inr h) = inr (patch_waits who (with_waiting b o) b c answer refl refl h)
 answers_without who b o c AwaitRelease same on h =
     record { same = h.same; published = h.published; waits = h.waits; forward = on; why = record { waiting = h.why.waiting; waits = h.why.waits; same = same h.why.waiting h.why.waits; lacks = h.why.lacks } }
@@ -128,7 +128,7 @@ unlooked names table command_opening b known =
 pub answers_unlooked : (who : ℕ) (b c : WordBook) (step : CommandStep) → OpAnswers who (record b { look = None }) c step → OpAnswers who b c step
 answers_unlooked who b c (Done applied) h = h
 answers_unlooked who b c (NotYet answer) (inl h) =
-    inl (record { same = h.same; published = h.published; waits = h.waits; forward = h.forward; why = record { waiting = h.why.waiting; waits = h.why.waits; same = h.why.same; late = h.why.late } })
+    inl (record { same = h.same; published = h.published; waits = h.waits; forward = h.forward; why = record { waiting = h.why.waiting; waits = h.why.waits; same = h.why.same; late = h.why.late; placed = h.why.placed } })
 answers_unlooked who b c (NotYet answer) (inr h) = inr (patch_waits who (record b { look = None }) b c answer refl refl h)
 answers_unlooked who b c AwaitRelease h =
     record { same = h.same; published = h.published; waits = h.waits; forward = h.forward; why = record { waiting = h.why.waiting; waits = h.why.waits; same = h.why.same; lacks = h.why.lacks } }
