@@ -6,7 +6,7 @@ pub use Rattle.term_core.proofs.NameTables.{slice_get-number_of, names_with-IsNa
 pub use Rattle.term_core.proofs.Places.{position-cons, position-append_found, position-append_one}
 pub use Rattle.term_core.proofs.PlainTerms.{plain-term_of, term_of-plain}
 pub use Rattle.term_core.proofs.TermBytes.{is_term_byte, term_bytes-written}
-pub use Rattle.term_core.proofs.TermForms.{is_immediate-term_in, is_term_text-form, nonempty-is_term_text, form_is, tree_is}
+pub use Rattle.term_core.proofs.TermForms.{is_term_text-form, nonempty-is_term_text, form_is, tree_is}
 pub use Rattle.term_core.proofs.Text.Cuts.{lacks, number_lacks, lacks-append, lacks-cons, cut_here, cut_is, atom_lacks, lines_behind, lines_of_cut}
 pub use Rattle.term_core.proofs.Text.Cuts.{lines_of_tail, uncut_is, lacks-all}
 pub use Rattle.term_core.proofs.Text.Numbers.{decimal-writes}
