@@ -101,7 +101,7 @@ module _ (table : TableId) (key : Opening) (kind : Option Kind) (serial : ℕ) (
         first = here.first;
         last = here.last;
         names = here.names;
-        found = here.found ∙ ap (λ xs. record { wait = scan_wait a kind serial; process = count; place = place - 1; word = word } ∷ xs) h.named;
+        found = here.found ∙ ap (λ xs. record { wait = scan_wait a kind serial; process = count; place = place - 1; word = word; behind = Some (record { wait = scan_wait a kind serial; process = count; turns = turn }) } ∷ xs) h.named;
         turn_read = (
           here.turn_read.0 ++ h.more.turns.0,
           here.turn_read.1 ∙ ap (λ (ts : List ReadTurn). record { wait = scan_wait a kind serial; process = count; turns = turn } ∷ (here.turn_read.0 ++ ts)) h.more.turns.1

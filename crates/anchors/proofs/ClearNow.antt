@@ -5,14 +5,18 @@ use Rattle.term_core.specs.declared.area.AreaRef.{AreaRef}
 use Rattle.term_core.specs.declared.hold.Kind.{Kind}
 use Rattle.area_core.specs.declared.table.Published.{Published}
 use Rattle.area_core.specs.Blocks.{Among}
+use Rattle.area_core.specs.Generations.{names_frame}
 use Rattle.marks.specs.declared.kept.LookKind.{LookKind}
 use Rattle.marks.specs.declared.kept.EndedWait.{EndedWait}
+use Rattle.marks.specs.declared.kept.LingeringFrame.{LingeringFrame}
 use Rattle.marks.specs.declared.kept.LookedAnchor.{LookedAnchor}
 use Rattle.marks.specs.declared.kept.WriterKept.{WriterKept}
 use Rattle.marks.specs.Names.{names_in, tells_kill}
 use Rattle.marks.specs.Steps.{with_wait, with_looked}
 use Rattle.shared_words.specs.declared.opening.Opening.{Opening}
+use Rattle.shared_words.specs.declared.view.NamedAnchor.{NamedAnchor}
 use Rattle.shared_words.specs.declared.view.WriterView.{WriterView}
+use Rattle.shared_words.specs.Lingering.{anchor_again, with_anchor_found, with_lingering}
 use Rattle.shared_words.specs.Rule.{HasEnded}
 use Rattle.shared_words.specs.Slots.{IsClear, word_looked, slot_looked}
 use Rattle.shared_words.proofs.ShownMembers.{still_at}
@@ -58,6 +62,10 @@ slots_on : (w : WriterView) (process place found : ℕ) (look : Option (AreaRef 
 slots_on w process place found None = record { pairs = λ pair among. among; counter = omega (arith); published = ([], sym (append-nil w.published)); anchors = λ l among. among }
 slots_on w process place found (Some look) = record { pairs = λ pair among. among; counter = omega (arith); published = ([], sym (append-nil w.published)); anchors = λ l among. looked_on _ process place found w.looks l among }
 
+answers_on : (kept : Bool) (seen : NamedAnchor) (l : LingeringFrame) (w : WriterView) → HasGoneOn w (with_anchor_found seen (cond kept (with_lingering l w) w))
+answers_on true seen l w = record { pairs = λ pair among. among; counter = omega (arith); published = ([], sym (append-nil w.published)); anchors = λ l among. among }
+answers_on false seen l w = record { pairs = λ pair among. among; counter = omega (arith); published = ([], sym (append-nil w.published)); anchors = λ l among. among }
+
 steps_go_on : (w : WriterView) → StepsGoOn w
 steps_go_on w = record {
   words = λ word value. record { pairs = λ pair among. among; counter = omega (arith); published = ([], sym (append-nil w.published)); anchors = λ l among. among };
@@ -66,7 +74,7 @@ steps_go_on w = record {
   counters = λ counter later. record { pairs = λ pair among. among_front w.pairs _ pair among; counter = later; published = ([], sym (append-nil w.published)); anchors = λ l among. among };
   notes = λ process. record { pairs = λ pair among. among; counter = omega (arith); published = ([], sym (append-nil w.published)); anchors = λ l among. among };
   slots = λ process place found look. slots_on w process place found look;
-  lingering = λ l. record { pairs = λ pair among. among; counter = omega (arith); published = ([], sym (append-nil w.published)); anchors = λ l among. among };
+  lingering = λ place found l. answers_on (names_frame found l.wait.serial) (anchor_again place found l w) l w;
 }
 
 on_again : (a b c : WriterView) → HasGoneOn a b → HasGoneOn b c → HasGoneOn a c

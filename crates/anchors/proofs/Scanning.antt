@@ -11,7 +11,7 @@ use Rattle.marks.specs.declared.kept.ReadTurn.{ReadTurn}
 use Rattle.marks.specs.Names.{names_in, tells_kill}
 use Rattle.marks.specs.Steps.{with_wait, with_looked}
 use Rattle.shared_words.specs.declared.view.WriterView.{WriterView}
-use Rattle.shared_words.specs.Slots.{wait_for, wait_looked}
+use Rattle.shared_words.specs.Slots.{wait_for, wait_looked, anchor_found}
 use Rattle.shared_words.proofs.ShownMembers.{still_at}
 use Rattle.anchors.specs.Scans.{tells_any, LooksMore, IsLoaded, AreFound, IsSlotNamed}
 
@@ -68,7 +68,7 @@ module _ (wait : EndedWait) (process place found : ℕ) (w : WriterView) where
   looked = record { wait = wait; process = process; place = place; told = tells_kill found wait.serial }
 
   abbrev after : Bool → WriterView
-  after named = record w { looks = cond named (with_wait w.looks wait) (with_looked (with_wait w.looks wait) looked); named = cond named (record { wait = wait; process = process; place = place; word = found } ∷ w.named) w.named }
+  after named = record w { looks = cond named (with_wait w.looks wait) (with_looked (with_wait w.looks wait) looked); named = cond named (anchor_found wait process place found w.looks.turns ∷ w.named) w.named }
 
   after_more : (named : Bool) → LooksMore w (after named)
   after_more true = record { same = refl; anchors = ([], refl); turns = ([], refl); dropped = refl; lingering = refl }
@@ -130,12 +130,13 @@ module _ (wait : EndedWait) (process turn : ℕ) (old mid : WriterView) (place w
   -- the first that names the area
   next_named : names_in wait.kind word wait.serial ≡ true → suc place ≤ 16 → IsSlotNamed wait process turn (suc place) word old (after wait process place word mid true) × LooksMore old (after wait process place word mid true)
   next_named names last =
-      let back : place ≡ suc place - 1 = omega arith in (
+      let back : place ≡ suc place - 1 = omega arith in
+      let behind : slice_get mid.looks.turns 0 ≡ Some (record { wait = wait; process = process; turns = turn }) = ap (λ (ts : List ReadTurn). slice_get ts 0) h.turn_read.1 in (
         record {
           first = omega arith;
           last = last;
           names = names;
-          found = (λ i. record { wait = wait; process = process; place = back i; word = word } ∷ h.named i);
+          found = (λ i. record { wait = wait; process = process; place = back i; word = word; behind = behind i } ∷ h.named i);
           turn_read = h.turn_read;
         },
         more_again old mid (after wait process place word mid true) h.more (after_more wait process place word mid true),
@@ -144,7 +145,7 @@ module _ (wait : EndedWait) (process turn : ℕ) (old mid : WriterView) (place w
 -- what the load of an anchor leaves, by whether it names the area
 loaded_is : (wait : EndedWait) (process place word : ℕ) (mid : WriterView) (named : Bool) → names_in wait.kind word wait.serial ≡ named → wait_looked wait process (suc place) word mid ≡ after wait process place word mid named
 loaded_is wait process place word mid named is =
-    ap (λ (b : Bool). record mid { looks = cond b (with_wait mid.looks wait) (with_looked (with_wait mid.looks wait) (record { wait = wait; process = process; place = place; told = tells_kill word wait.serial })); named = cond b (record { wait = wait; process = process; place = place; word = word } ∷ mid.named) mid.named }) is
+    ap (λ (b : Bool). record mid { looks = cond b (with_wait mid.looks wait) (with_looked (with_wait mid.looks wait) (record { wait = wait; process = process; place = place; told = tells_kill word wait.serial })); named = cond b (anchor_found wait process place word mid.looks.turns ∷ mid.named) mid.named }) is
 
 pub anchor_clear : (wait : EndedWait) (process turn : ℕ) (old mid new : WriterView) (place word : ℕ) (killed killed' : Bool) → SlotLooked wait process turn old place killed mid → new ≡ wait_looked wait process place word mid → names_in wait.kind word wait.serial ≡ false → killed' ≡ (killed || tells_kill word wait.serial) → SlotLooked wait process turn old (place + 1) killed' new
 anchor_clear wait process turn old mid new zero word killed killed' h is clear told = absurd (let all = h.all in omega (arith, all))

@@ -25,7 +25,7 @@ use Rattle.shared_words.specs.Publishing.{with_word, with_next}
 use Rattle.shared_words.specs.Drops.{with_drop}
 use Rattle.shared_words.specs.Rule.{IsBeginning, RunningRule}
 use Rattle.shared_words.specs.Slots.{wait_for, look_kind, slot_looked, IsClear}
-use Rattle.shared_words.specs.Lingering.{with_lingering}
+use Rattle.shared_words.specs.Lingering.{lingering_found}
 use Rattle.shared_words.specs.Laws.{IsOutOfUse}
 use Rattle.anchors.specs.declared.answers.Scan.{Scan}
 use Rattle.anchors.specs.declared.answers.Scan.TheVariants as scans
@@ -69,12 +69,13 @@ pub record IsSlotClear (wait : EndedWait) (process : ℕ) (killed : Bool) (old n
   pub told : killed ≡ tells_any wait.serial words
   pub named : new.named ≡ old.named
 
--- this anchor, its place counted from 1, was found last, and names the area; the turn word of its slot was loaded before it
+-- this anchor, its place counted from 1, was found last, and names the area; the turn word of its slot was loaded in this look,
+-- and it was the last turn word that was kept when the anchor was loaded, so it was loaded before it
 pub record IsSlotNamed (wait : EndedWait) (process turn place word : ℕ) (old new : WriterView) : Type 0 where
   pub first : 1 ≤ place
   pub last : place ≤ ANCHORS
   pub names : names_in wait.kind word wait.serial ≡ true
-  pub found : new.named ≡ record { wait = wait; process = process; place = place - 1; word = word } ∷ old.named
+  pub found : new.named ≡ record { wait = wait; process = process; place = place - 1; word = word; behind = Some (record { wait = wait; process = process; turns = turn }) } ∷ old.named
   pub turn_read : (more : List ReadTurn) × (new.looks.turns ≡ record { wait = wait; process = process; turns = turn } ∷ (more ++ old.looks.turns))
 
 -- why each answer comes
@@ -117,7 +118,7 @@ ScanMeans Served opening w kind serial (scans.Named process turn place word) = U
 ScanMeans Served opening w kind serial (scans.Clear killed) = StaysOutOfUse Served opening w kind serial
 
 -- each step of the writer goes on: the store of a word, that of the root, a drop that it keeps with one of these, the load of the
--- counter, the split of a note, the load of a word of a slot, and the answer that a process lingers, which it keeps
+-- counter, the split of a note, the load of a word of a slot, and that of an anchor for the answer that its process lingers
 pub record StepsGoOn (w : WriterView) : Type 0 where
   pub words : (word value : ℕ) → HasGoneOn w (with_word word value w)
   pub roots : (p : Published) → HasGoneOn w (with_next p w)
@@ -125,7 +126,7 @@ pub record StepsGoOn (w : WriterView) : Type 0 where
   pub counters : (counter : ℕ) → w.counter ≤ counter → HasGoneOn w (counter_kept counter w)
   pub notes : (process : ℕ) → HasGoneOn w (with_note process w)
   pub slots : (process place found : ℕ) (look : Option (AreaRef × Option Kind)) → HasGoneOn w (slot_looked process place look found w)
-  pub lingering : (l : LingeringFrame) → HasGoneOn w (with_lingering l w)
+  pub lingering : (place found : ℕ) (l : LingeringFrame) → HasGoneOn w (lingering_found place found l w)
 
 -- and steps add up
 abbrev pub WriterGoesOn : Type 0

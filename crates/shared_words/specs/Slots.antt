@@ -16,6 +16,7 @@ use Rattle.area_core.specs.Generations.{is_current, is_key_area, serial_in, name
 use Rattle.marks.specs.declared.kept.LookKind.{LookKind}
 use Rattle.marks.specs.declared.kept.LookKind.TheVariants.{Frame, Both}
 use Rattle.marks.specs.declared.kept.EndedWait.{EndedWait}
+use Rattle.marks.specs.declared.kept.ReadTurn.{ReadTurn}
 use Rattle.marks.specs.declared.kept.WriterKept.{WriterKept}
 use Rattle.marks.specs.declared.mark.ProcessView.{ProcessView}
 use Rattle.marks.specs.Names.{names_in, tells_kill, HasAnchor}
@@ -142,15 +143,19 @@ word_looked wait process zero found k = with_read k (record { wait = wait; proce
 word_looked wait process (suc place) found k =
     if names_in wait.kind found wait.serial then k else with_looked k (record { wait = wait; process = process; place = place; told = tells_kill found wait.serial })
 
+-- an anchor as it was found, behind the turn word that was kept last
+abbrev pub anchor_found : EndedWait → ℕ → ℕ → ℕ → List ReadTurn → NamedAnchor
+anchor_found wait process place found turns = record { wait = wait; process = process; place = place; word = found; behind = slice_get turns 0 }
+
 -- and of an anchor that names it
-abbrev pub named_looked : EndedWait → ℕ → ℕ → ℕ → List NamedAnchor → List NamedAnchor
-named_looked wait process zero found named = named
-named_looked wait process (suc place) found named =
-    if names_in wait.kind found wait.serial then record { wait = wait; process = process; place = place; word = found } ∷ named else named
+abbrev pub named_looked : EndedWait → ℕ → ℕ → ℕ → List ReadTurn → List NamedAnchor → List NamedAnchor
+named_looked wait process zero found turns named = named
+named_looked wait process (suc place) found turns named =
+    if names_in wait.kind found wait.serial then anchor_found wait process place found turns ∷ named else named
 
 -- with its wait
 abbrev pub wait_looked : EndedWait → ℕ → ℕ → ℕ → WriterView → WriterView
-wait_looked wait process place found w = record w { looks = word_looked wait process place found (with_wait w.looks wait); named = named_looked wait process place found w.named }
+wait_looked wait process place found w = record w { looks = word_looked wait process place found (with_wait w.looks wait); named = named_looked wait process place found w.looks.turns w.named }
 
 -- what the writer knows once it has found this word in a look, or outside every look
 abbrev pub slot_looked : ℕ → ℕ → Option (AreaRef × Option Kind) → ℕ → WriterView → WriterView

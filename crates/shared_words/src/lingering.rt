@@ -52,7 +52,7 @@ fn linger_at<N: Served, K: Lingered>(
     requires place { (1 ≤ place) × (place ≤ ANCHORS) }
     requires looked { IsLooked (writer_of writer.old.me.0) process K.serial K.turns }
     ensures token { IsSameSeat writer.old writer.new }
-    ensures view { writer.new.me.0 ≡ views.Writer (lingering_found result (lingering_of (writer_of writer.old.me.0) process K.serial K.turns) (writer_of writer.old.me.0)) }
+    ensures view { writer.new.me.0 ≡ views.Writer (lingering_found place result (lingering_of (writer_of writer.old.me.0) process K.serial K.turns) (writer_of writer.old.me.0)) }
 {
     table.load::<LoadLingering<K>>(writer, slot_word(process, place))
 }
@@ -61,7 +61,8 @@ impl<N: Served> Shared<N> {
     /// Loads an anchor of a process again, after a look for frames of an old instance that found it; the
     /// anchors are counted from 1. The look read that the process had done `turns` turns, and the
     /// generation of its wait is still the newest. Where the anchor names the instance for a frame, the
-    /// writer keeps the answer that the process lingers in it after that turn.
+    /// writer keeps the answer that the process lingers in it after that turn; in each case it keeps the
+    /// anchor as it was found.
     ///
     /// Source: Erlang/OTP, the manual page of the module code (check_process_code, soft_purge); the words
     /// are this project's own.
@@ -80,7 +81,7 @@ impl<N: Served> Shared<N> {
         ensures token { IsWriterSeat self.now.table.shared.table_id self.now.table.shared.key writer.new.generation writer.new.seat }
         ensures same { IsSameSeat writer.old.seat writer.new.seat }
         ensures generation { writer.new.generation ≡ writer.old.generation }
-        ensures view { writer.new.seat.me.0 ≡ views.Writer (lingering_found result (lingering_of (writer_of writer.old.seat.me.0) process area.serial turns) (writer_of writer.old.seat.me.0)) }
+        ensures view { writer.new.seat.me.0 ≡ views.Writer (lingering_found place result (lingering_of (writer_of writer.old.seat.me.0) process area.serial turns) (writer_of writer.old.seat.me.0)) }
     {
         linger_at::<N, Brand>(
             &self.table.shared,

@@ -1,7 +1,7 @@
 //! What each seat at the table knows. No value of these types is made: they are for clauses alone.
 
 use area_core::{KeptList, PublishedList};
-use marks::{EndedWait, MarkList, Slot, WriterKept};
+use marks::{EndedWait, MarkList, ReadTurn, Slot, WriterKept};
 use prgr_core::{Member, RetirementList, Watcher};
 use term_core::{CountList, Items, WordList};
 
@@ -14,13 +14,16 @@ pub struct NoteNumber {
 /// The notes of processes in a row.
 pub type NoteNumberList = Items<NoteNumber>;
 
-/// An anchor that named the area of a look in its kind when it was loaded.
+/// An anchor that a look found to name its area in its kind, as it was found then, or as it was found once
+/// it was loaded again for an answer.
 pub struct NamedAnchor {
     pub wait: EndedWait,
     pub process: u32,
     /// The place of the anchor, from 0.
     pub place: u32,
     pub word: u64,
+    /// Of the turn words that the writer had loaded before the anchor, the one that it kept last.
+    pub behind: Option<ReadTurn>,
 }
 
 /// Anchors that looks found in a row.
@@ -123,7 +126,8 @@ pub struct WriterView {
     /// What it keeps of waits that are over, of anchors and turn words that it has looked at, and of its
     /// answers.
     pub looks: WriterKept,
-    /// The anchors that looks found to name their area, the newest first.
+    /// The anchors that looks found to name their area, then and when they were loaded again for an answer,
+    /// the newest first.
     pub named: NamedAnchorList,
     /// The numbers of the members whose seats came in to its own.
     pub taken: CountList,
