@@ -1,5 +1,5 @@
 -- What a look for an area has found, and what a load of the counter leaves of it.
-use Rattle.std.proofs.Common.{◌≡◌, ℕ, ◌-◌, ◌≤◌, ◌∷◌, ◌++◌, slice_get, None, refl, ap, ◌∙◌, arith}
+use Rattle.std.proofs.Common.{◌≡◌, ℕ, ◌-◌, ◌≤◌, ◌∷◌, ◌++◌, slice_get, Some, None, refl, ap, ◌∙◌, arith}
 use Rattle.marks.specs.declared.kept.EndedWait.{EndedWait}
 use Rattle.marks.specs.declared.kept.LookKind.TheVariants.{Both}
 use Rattle.marks.specs.declared.kept.WriterKept.{WriterKept}
@@ -72,7 +72,7 @@ named_since serial old mid new process turn place word looks h = record {
     first = h.found.first;
     last = h.found.last;
     names = h.found.names;
-    found = h.found.found ∙ ap (λ named. record { wait = h.wait; process = process; place = place - 1; word = word } ∷ named) looks.named;
+    found = h.found.found ∙ ap (λ named. record { wait = h.wait; process = process; place = place - 1; word = word; behind = Some (record { wait = h.wait; process = process; turns = turn }) } ∷ named) looks.named;
     turn_read = (h.found.turn_read.0, h.found.turn_read.1 ∙ ap (λ (k : WriterKept). record { wait = h.wait; process = process; turns = turn } ∷ (h.found.turn_read.0 ++ k.turns)) looks.looks);
   };
 }

@@ -16,11 +16,12 @@ use Rattle.marks.specs.declared.kept.LookKind.TheVariants.{Frame}
 use Rattle.anchors.specs.declared.answers.Scan.{Scan}
 use Rattle.anchors.specs.Scans.{LooksMore, ScanCause}
 use Rattle.shared_words.specs.declared.opening.Opening.{Opening}
+use Rattle.shared_words.specs.declared.view.NamedAnchor.{NamedAnchor}
 use Rattle.shared_words.specs.declared.view.WriterView.{WriterView}
 use Rattle.shared_words.specs.Rule.{HasEnded, is_gone}
 use Rattle.shared_words.specs.Slots.{LookMayBegin, has_ended, is_gone_in, last_ended, wait_for}
 use Rattle.shared_words.specs.Views.{newest_number, published_at}
-use Rattle.shared_words.specs.Lingering.{lingering_found, with_lingering}
+use Rattle.shared_words.specs.Lingering.{anchor_again, lingering_found, with_anchor_found, with_lingering}
 use Rattle.progress_words.specs.Roots.{newest_of}
 use Rattle.progress_words.specs.Needs.{HasLoadedCounter}
 use Rattle.progress_words.specs.Tokens.{written_by}
@@ -37,12 +38,12 @@ abbrev pub IsSameButFound : WriterView → WriterView → Type 0
 IsSameButFound old new = new ≡ record old { looks = new.looks; named = new.named }
 
 -- the answer that a process lingers is one of looks
-linger_kept : (b : Bool) (l : LingeringFrame) (w : WriterView) → IsSameButFound w (if b then with_lingering l w else w)
-linger_kept true l w = refl
-linger_kept false l w = refl
+linger_kept : (b : Bool) (seen : NamedAnchor) (l : LingeringFrame) (w : WriterView) → IsSameButFound w (with_anchor_found seen (if b then with_lingering l w else w))
+linger_kept true seen l w = refl
+linger_kept false seen l w = refl
 
-pub linger_same : (found : ℕ) (l : LingeringFrame) (old new : WriterView) → new ≡ lingering_found found l old → IsSameButFound old new
-linger_same found l old new is = subst (IsSameButFound old) (sym is) (linger_kept (names_frame found l.wait.serial) l old)
+pub linger_same : (place found : ℕ) (l : LingeringFrame) (old new : WriterView) → new ≡ lingering_found place found l old → IsSameButFound old new
+linger_same place found l old new is = subst (IsSameButFound old) (sym is) (linger_kept (names_frame found l.wait.serial) (anchor_again place found l old) l old)
 
 -- ---- the wait of a look
 

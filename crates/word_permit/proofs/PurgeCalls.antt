@@ -51,7 +51,7 @@ use Rattle.word_permit.specs.declared.book.WordBook.{WordBook}
 use Rattle.word_permit.specs.Books.{HasGivenUp, HasTakenBack, IsWordBook}
 use Rattle.word_permit.specs.Looks.{HasLooked, HasLookedFor, IsLookTaken, IsReached}
 use Rattle.word_permit.specs.Notes.{AreOfSpawned}
-use Rattle.word_permit.specs.Purged.{AwaitsFound, EndAnswers, EndsByCode, EndsNext, EndsWith, HasBegun, HasDoomedCode, HasGrown, IsCodeDropped, IsEndLooked, IsEndedBy, IsLingerKept, IsLookLate, IsOldCodeOf, IsToldBy, JustLooks, LeavesServer, LingersAs, LingersIn, LookAnswers, NamesCode, PurgeAnswers, StillWaits}
+use Rattle.word_permit.specs.Purged.{AwaitsFound, EndAnswers, EndsByCode, EndsNext, EndsWith, HasBegun, HasDoomedCode, HasGrown, HasLeftCode, IsCodeDropped, IsEndLooked, IsEndedBy, IsLearntBehind, IsLingerKept, IsLookLate, IsOldCodeOf, IsToldBy, JustLooks, LeavesServer, LingersAs, LingersIn, LookAnswers, NamesCode, PurgeAnswers, StillWaits}
 use Rattle.word_permit.specs.Waiting.{WordsStand}
 use Rattle.word_permit.proofs.Answered.{answered_joined}
 use Rattle.word_permit.proofs.Calls.{counts_none}
@@ -164,20 +164,28 @@ value_late (Err answer) c need look taken below = record {
 pub value_taken : (names : List Mfa) (table : TableId) (opening : Opening) (c : WordBook) (need : ℕ) → IsWordBook names table opening c → c.look ≡ Some need → IsLookTaken (written_by c.tables.writer) need
 value_taken names table opening c need known look = subst (λ (o : Option ℕ). IfSome o (IsLookTaken (written_by c.tables.writer))) look known.looked
 
+-- what is learnt behind a look, by who holds the permission
+pub held_learns : (b : WordBook) (who serial process turn place : ℕ) (new : WriterView) → b.plain.holder ≡ Held who → HasLeftCode serial process turn place (written_by b.tables.writer) new → IsLearntBehind b.plain.holder serial process turn place (written_by b.tables.writer) new
+held_learns b who serial process turn place new holds left = subst (λ h. IsLearntBehind h serial process turn place (written_by b.tables.writer) new) (sym holds) left
+
+pub doomed_learns : (b : WordBook) (who : ℕ) (name : AtomId) (serial process turn place : ℕ) → b.plain.holder ≡ Purging who name → IsLearntBehind b.plain.holder serial process turn place (written_by b.tables.writer) (written_by b.tables.writer)
+doomed_learns b who name serial process turn place holds = subst (λ h. IsLearntBehind h serial process turn place (written_by b.tables.writer) (written_by b.tables.writer)) (sym holds) refl
+
 -- the purge waits for whom the look of this call found
 module _ (who : ℕ) (b m : WordBook) (command : ScriptCmd) (serial : ℕ) (scan : Scan) (begun : HasBegun who b) (next : next_of (shown b.plain) who ≡ Some command) (code : IsOldCodeOf b.plain.server command serial) (holds : LingersAs who b.plain.holder command) (looks : JustLooks b m)
     (found : HasLookedFor serial (written_by b.tables.writer) (written_by m.tables.writer) scan) where
-  lingers_behind : (c : WordBook) (process turn place word : ℕ) → AwaitsFound scan m c process turn place word → LingersIn who b c process turn place word
+  lingers_behind : (c : WordBook) (process turn place word : ℕ) → AwaitsFound serial scan m c process turn place word → LingersIn who b c process turn place word
   lingers_behind c process turn place word h = record {
     begun = begun;
     same = h.same ∙ ap shown looks.plain;
-    published = ap (λ (w : WriterView). w.published) h.view ∙ looks.published;
+    published = h.published ∙ looks.published;
     none = h.none;
     serial = serial;
     code = some_at (next_of (shown b.plain) who) (λ x. IsOldCodeOf b.plain.server x serial) command next code;
     holds = some_at (next_of (shown b.plain) who) (LingersAs who b.plain.holder) command next holds;
-    found = subst (λ (w : WriterView). HasLookedFor serial (written_by b.tables.writer) w (scans.Named process turn place word)) (sym h.view)
-        (subst (HasLookedFor serial (written_by b.tables.writer) (written_by m.tables.writer)) h.found found);
+    known = written_by m.tables.writer;
+    found = subst (HasLookedFor serial (written_by b.tables.writer) (written_by m.tables.writer)) h.found found;
+    learnt = subst (λ (x : Book). IsLearntBehind x.holder serial process turn place (written_by m.tables.writer) (written_by c.tables.writer)) looks.plain h.learnt;
   }
 
   -- or is done by it

@@ -3,12 +3,13 @@
 use Rattle.std.specs.Prelude.{◌≡◌, ◌⊎◌, ℕ, ◌<◌, ◌≤◌, Bool, true, false, List, ◌++◌, length, Option, Some, None, IfSome, IsSomeAnd}
 use Rattle.term_core.specs.declared.atom.AtomId.{AtomId}
 use Rattle.mod_core.specs.declared.code.Module.{Module}
+use Rattle.area_core.specs.Generations.{names_frame}
 use Rattle.marks.specs.declared.kept.LookKind.TheVariants.{Frame}
 use Rattle.marks.specs.declared.kept.WriterKept.{WriterKept}
 use Rattle.marks.specs.Steps.{with_drop_kept, with_lingering}
 use Rattle.shared_words.specs.declared.view.WriterView.{WriterView}
 use Rattle.shared_words.specs.Drops.{AgreesWithLooks, drop_of}
-use Rattle.shared_words.specs.Lingering.{lingering_of}
+use Rattle.shared_words.specs.Lingering.{anchor_again, lingering_of, with_anchor_found}
 use Rattle.shared_words.specs.Views.{newest_number}
 use Rattle.progress_words.specs.declared.answers.NotYet as late
 use Rattle.progress_words.specs.Tokens.{written_by}
@@ -145,8 +146,21 @@ LingersAs who holder (SoftPurge name) = holder ≡ Held who
 LingersAs who holder (Purge name) = holder ≡ Purging who name
 LingersAs who holder command = ⊥
 
--- the purge waits: a look that was made in this call, behind a wait at the newest generation, found an anchor that names its old code for a frame. The
--- look alone is what the writer has learnt of slots, so it keeps no answer that a process lingers, by which a soft purge would be done
+-- the anchor that the look found was loaded once more behind it, and names the old code no more; the writer has learnt no more than that
+pub record HasLeftCode (serial process turn place : ℕ) (known new : WriterView) : Type 0 where
+  pub word : ℕ
+  pub left : names_frame word serial ≡ false
+  pub view : new ≡ with_anchor_found (anchor_again place word (lingering_of known process serial turn) known) known
+
+-- what the writer has learnt behind the look: for a soft purge, that the process has left the old code; for a purge, nothing
+abbrev pub IsLearntBehind : Holder → ℕ → ℕ → ℕ → ℕ → WriterView → WriterView → Type 0
+IsLearntBehind (Held who) serial process turn place known new = HasLeftCode serial process turn place known new
+IsLearntBehind (Purging who name) serial process turn place known new = new ≡ known
+IsLearntBehind holder serial process turn place known new = ⊥
+
+-- the purge waits: a look that was made in this call, behind a wait at the newest generation, found an anchor that names its old code for a frame. Of
+-- slots the writer has learnt by that look, and a soft purge besides that the anchor, which it loaded again, names the code no more: where it names the
+-- code still, the process lingers, and the soft purge is done
 pub record LingersIn (who : ℕ) (old new : WordBook) (process turn place word : ℕ) : Type 0 where
   pub begun : HasBegun who old
   pub same : shown new.plain ≡ shown old.plain
@@ -155,7 +169,10 @@ pub record LingersIn (who : ℕ) (old new : WordBook) (process turn place word :
   pub serial : ℕ
   pub code : IsSomeAnd (next_of (shown old.plain) who) (λ command. IsOldCodeOf old.plain.server command serial)
   pub holds : IsSomeAnd (next_of (shown old.plain) who) (LingersAs who old.plain.holder)
-  pub found : HasLookedFor serial (written_by old.tables.writer) (written_by new.tables.writer) (scans.Named process turn place word)
+  -- what the writer knew behind the look
+  pub known : WriterView
+  pub found : HasLookedFor serial (written_by old.tables.writer) known (scans.Named process turn place word)
+  pub learnt : IsLearntBehind old.plain.holder serial process turn place known (written_by new.tables.writer)
 
 -- what the last command of a soft purge or a purge answers
 abbrev pub RepliesSo : Cmd → Applied → Type 0
@@ -235,11 +252,12 @@ EndAnswers who cmd old new (NotYet answer) = ⊥
 EndAnswers who cmd old new AwaitRelease = ⊥
 EndAnswers who cmd old new (Lingers process turn place word) = ⊥
 
--- the look named this anchor, and nothing has changed since, nor was learnt
-pub record AwaitsFound (scan : Scan) (old new : WordBook) (process turn place word : ℕ) : Type 0 where
+-- the look named this anchor, and nothing has changed since; a soft purge has learnt that the process has left the old code
+pub record AwaitsFound (serial : ℕ) (scan : Scan) (old new : WordBook) (process turn place word : ℕ) : Type 0 where
   pub found : scan ≡ scans.Named process turn place word
   pub same : shown new.plain ≡ shown old.plain
-  pub view : written_by new.tables.writer ≡ written_by old.tables.writer
+  pub published : PublishesNone old new
+  pub learnt : IsLearntBehind old.plain.holder serial process turn place (written_by old.tables.writer) (written_by new.tables.writer)
   pub none : new.waiting ≡ None
 
 -- the command ends by what the look found
@@ -254,7 +272,7 @@ abbrev pub LookAnswers : ℕ → ℕ → Scan → WordBook → WordBook → Comm
 LookAnswers who serial scan old new (Done applied) = EndsByFound who serial scan old new applied
 LookAnswers who serial scan old new (NotYet answer) = ⊥
 LookAnswers who serial scan old new AwaitRelease = ⊥
-LookAnswers who serial scan old new (Lingers process turn place word) = AwaitsFound scan old new process turn place word
+LookAnswers who serial scan old new (Lingers process turn place word) = AwaitsFound serial scan old new process turn place word
 
 -- the same of each command that needs the permission
 pub record CommandAnswers (who : ℕ) (old new : WordBook) (step : CommandStep) : Type 0 where

@@ -11,7 +11,7 @@ ghost use Rattle.area_core.specs.Generations.{names_frame};
 ghost use Rattle.run_law.specs.Answers.{HasLingering};
 ghost use Rattle.word_permit.specs.Books.{IsWordBook};
 ghost use Rattle.word_permit.specs.Looks.{HasLooked, HasLookedFor, IsReached, KeepsLooks};
-ghost use Rattle.word_permit.specs.Purged.{IsLingerKept, IsLookLate, JustLooks};
+ghost use Rattle.word_permit.specs.Purged.{HasLeftCode, IsLingerKept, IsLookLate, JustLooks};
 
 use crate::book::WordBook;
 use anchors::{Scan, scan};
@@ -160,7 +160,7 @@ pub fn keep_lingering<K: Naming>(
     requires found { HasLooked serial (written_by book.old.tables.writer) (scans.Named process turn place _word) }
     ensures kept { IfSome result (HasLingering (written_by book.new.tables.writer).looks serial (newest_number (written_by book.old.tables.writer).published)) }
     ensures lingers { IfSome result (IsLingerKept serial process turn (written_by book.old.tables.writer) (written_by book.new.tables.writer)) }
-    ensures left { result ≡ None → written_by book.new.tables.writer ≡ written_by book.old.tables.writer }
+    ensures left { result ≡ None → HasLeftCode serial process turn place (written_by book.old.tables.writer) (written_by book.new.tables.writer) }
     ensures same { JustLooks book.old book.new }
     ensures need { book.new.need ≡ book.old.need }
     ensures book { IsWordBook K.names shared.now.table.shared.table_id shared.now.table.shared.key book.new }

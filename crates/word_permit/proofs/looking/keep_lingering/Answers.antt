@@ -27,15 +27,15 @@ returns-clause-kept g c =
 
 pub returns-clause-lingers : goal.returns-clause-lingers
 returns-clause-lingers g c =
-    if_lingers (written_by c.args.book.now.tables.writer) (written_by c.load_lingering-word.new.writer) c.load_lingering-word.result c.args.serial c.args.process c.args.turn (ap writer_of c.load_lingering-word.ensures.view) c.named_by.result c.named_by.ensures
+    if_lingers (written_by c.args.book.now.tables.writer) (written_by c.load_lingering-word.new.writer) c.load_lingering-word.result c.args.serial c.args.process c.args.turn c.args.place (ap writer_of c.load_lingering-word.ensures.view) c.named_by.result c.named_by.ensures
 
 pub returns-clause-left : goal.returns-clause-left
 returns-clause-left g c =
-    if_left (written_by c.args.book.now.tables.writer) (written_by c.load_lingering-word.new.writer) c.load_lingering-word.result c.args.serial c.args.process c.args.turn (ap writer_of c.load_lingering-word.ensures.view) c.named_by.result c.named_by.ensures
+    if_left (written_by c.args.book.now.tables.writer) (written_by c.load_lingering-word.new.writer) c.load_lingering-word.result c.args.serial c.args.process c.args.turn c.args.place (ap writer_of c.load_lingering-word.ensures.view) c.named_by.result c.named_by.ensures
 
 pub returns-clause-same : goal.returns-clause-same
 returns-clause-same g c =
-    let same = linger_same c.load_lingering-word.result (lingering_of (written_by c.args.book.now.tables.writer) c.args.process c.args.serial c.args.turn) (written_by c.args.book.now.tables.writer) (written_by c.load_lingering-word.new.writer) (ap writer_of c.load_lingering-word.ensures.view) in
+    let same = linger_same c.args.place c.load_lingering-word.result (lingering_of (written_by c.args.book.now.tables.writer) c.args.process c.args.serial c.args.turn) (written_by c.args.book.now.tables.writer) (written_by c.load_lingering-word.new.writer) (ap writer_of c.load_lingering-word.ensures.view) in
     record {
       plain = refl;
       published = ap (λ (w : WriterView). w.published) same;
@@ -45,5 +45,5 @@ returns-clause-same g c =
 
 pub returns-clause-book : goal.returns-clause-book
 returns-clause-book g c =
-    book_lingered g.K.Naming.names _ _ c.args.book.now c.load_lingering-word.new.writer c.requires.book c.looks_keep_pools.ensures c.load_lingering-word.ensures.token c.load_lingering-word.result
+    book_lingered g.K.Naming.names _ _ c.args.book.now c.load_lingering-word.new.writer c.requires.book c.looks_keep_pools.ensures c.load_lingering-word.ensures.token c.args.place c.load_lingering-word.result
     (lingering_of (written_by c.args.book.now.tables.writer) c.args.process c.args.serial c.args.turn) (ap writer_of c.load_lingering-word.ensures.view)

@@ -3,7 +3,7 @@ use Rattle.std.proofs.Common.{refl}
 use Rattle.server_core.specs.declared.command.Cmd.TheVariants as cmds
 use Rattle.progress_words.specs.Tokens.{written_by}
 use Rattle.write_permit.proofs.EndBooks.{close_ends}
-use Rattle.word_permit.proofs.PurgeCalls.{clear_whole, found_as, found_clear, looks_ok, none_looked}
+use Rattle.word_permit.proofs.PurgeCalls.{clear_whole, doomed_learns, found_as, found_clear, looks_ok, none_looked}
 use Rattle.word_permit.proofs.PurgeCommands.{purging_holds, whole_told}
 use Rattle.word_permit.proofs.purging.end_wholly.Goals as goal
 
@@ -21,7 +21,7 @@ drop_code-requires-clause-told g c =
     whole_told c.args.book.now.plain.server (written_by c.args.book.now.tables.writer) c.args.code.«module» c.args.code.serial c.in-Clear.killed c.requires.code (found_as (written_by c.args.book.now.tables.writer) c.args.code.serial c.args.scan _ c.in-Clear.is c.requires.found)
 
 pub returns-in-Named-clause-ok : goal.returns-in-Named-clause-ok
-returns-in-Named-clause-ok g c = record { found = c.in-Named.is; same = refl; view = refl; none = c.requires.none }
+returns-in-Named-clause-ok g c = record { found = c.in-Named.is; same = refl; published = refl; learnt = doomed_learns c.args.book.now c.args.who c.args.code.«module» c.args.code.serial _ _ _ c.requires.holds; none = c.requires.none }
 
 pub returns-in-Clear-clause-ok : goal.returns-in-Clear-clause-ok
 returns-in-Clear-clause-ok g c =

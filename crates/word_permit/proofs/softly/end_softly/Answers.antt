@@ -5,7 +5,7 @@ use Rattle.script_core.specs.declared.script.ScriptCmd.TheVariants as commands
 use Rattle.write_permit.specs.declared.holder.Holder.TheVariants as holders
 use Rattle.write_permit.specs.Book.{shown}
 use Rattle.progress_words.specs.Tokens.{written_by}
-use Rattle.word_permit.proofs.PurgeCalls.{clear_soft, code_still, found_as, found_clear, holder_still, kept_still, looks_ok, named_soft, next_still, none_looked, taken_behind}
+use Rattle.word_permit.proofs.PurgeCalls.{clear_soft, code_still, found_as, found_clear, held_learns, holder_still, kept_still, looks_ok, named_soft, next_still, none_looked, taken_behind}
 use Rattle.word_permit.proofs.PurgeCommands.{held_holds, soft_ends, soft_told}
 use Rattle.word_permit.proofs.softly.end_softly.Goals as goal
 
@@ -56,7 +56,8 @@ pub returns-in-None-clause-ok : goal.returns-in-None-clause-ok
 returns-in-None-clause-ok g c = record {
   found = c.in-Named.is;
   same = ap shown c.keep_lingering.ensures.same.plain;
-  view = c.in-None.ensures.left refl;
+  published = c.keep_lingering.ensures.same.published;
+  learnt = held_learns c.args.book.now c.args.who c.args.code.serial _ _ _ (written_by c.keep_lingering.new.book.tables.writer) c.requires.holds (c.in-None.ensures.left refl);
   none = c.keep_lingering.ensures.same.waiting ∙ c.requires.none;
 }
 
