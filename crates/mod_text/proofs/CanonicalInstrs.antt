@@ -1,17 +1,17 @@
 -- Canonical instructions: each has its form, passes no limit, adds no name, and is read as that instruction.
-use Rattle.mod_text.proofs.Common.{◌≡◌, ℕ, ◌+◌, ◌<◌, ◌≤◌, ◌^◌, Bool, true, false, not, ◌&&◌, ◌||◌, ◌==◌, nat_le}
+use Rattle.mod_text.proofs.Common.{◌≡◌, ℕ, ◌+◌, ◌<◌, ◌≤◌, ◌^◌, Bool, true, false, ◌&&◌, ◌||◌, ◌==◌, nat_le}
 use Rattle.mod_text.proofs.Common.{List, [], ◌∷◌, ◌++◌, length, decimal, Option, Some, None, is_some, Texts}
 use Rattle.mod_text.proofs.Common.{unwrap_or, slice_get, refl, ap, ◌∙◌, arith, IsSomeAnd}
 use Rattle.mod_text.proofs.Common.{and_from, or_from, le-leb, not_from_true, Decides-eqb}
 use Rattle.term_core.specs.declared.atom.Mfa.{Mfa}
-use Rattle.mod_text.proofs.Texts.{is_atom_text, IsNames, atom_text, names_with_all, number_value, is_number_text, decimal-writes}
+use Rattle.mod_text.proofs.Texts.{is_atom_text, IsNames, atom_text, names_with_all, is_number_text, decimal-writes}
 use Rattle.mod_text.proofs.Types.{Operand, Instr, Function}
 use Rattle.mod_core.specs.declared.code.Instr.TheVariants.{Move, Add, Sub, Eq, Less, Jump, Call, CallExt}
 use Rattle.mod_core.specs.declared.code.Instr.TheVariants.{Ret, Pget, PgetOr, Elem, Print, Yield}
 use Rattle.mod_text.proofs.Forms.{label_text, written_operand, written_call, written_instr, goes_to, is_high}
 use Rattle.mod_text.proofs.Forms.{has_high_operand, is_high_call, has_high_instr, is_wide_operand}
 use Rattle.mod_text.proofs.Forms.{has_wide_instr, is_long_operand, has_long_instr, operand_atoms, instr_atoms, operands_of}
-use Rattle.mod_text.proofs.Forms.{some_operand, OperandForm, InstrForm, LineForm, is_arity_text, is_operand_form}
+use Rattle.mod_text.proofs.Forms.{some_operand, OperandForm, InstrForm, LineForm, is_operand_form}
 use Rattle.mod_text.proofs.Forms.{is_function_form, is_instr_form, HeaderForm, label_number, function_number, instr_in, is_settled}
 use Rattle.mod_core.specs.HeldNames.{HasAtomsAmong}
 use Rattle.mod_core.specs.Module.{IsInstr, IsFunctionName, IsCallPlace}
@@ -36,7 +36,7 @@ both_known names xs ys first second = names_with_all-append names xs ys ∙ ap (
 
 module _ (names : Texts) (headers : List HeaderForm) (body : List LineForm) (x y : OperandForm) (a b : Operand) (first : IsOperandBack names x a) (second : IsOperandBack names y b) where
   both_low : (rest : Bool) → rest ≡ false → (has_high_operand x || (has_high_operand y || rest)) ≡ false
-  both_low rest h = or_from (has_high_operand x) (has_high_operand y || rest) first.low (or_from (has_high_operand y) rest second.low h)
+  both_low rest h = or_from _ _ first.low (or_from _ rest second.low h)
 
   -- an instruction of two operands and one word more
   two_back : (form : InstrForm) (i : Instr) (last : Bool) → is_instr_form form ≡ (is_operand_form x && (is_operand_form y && last)) → last ≡ true → has_high_instr form ≡ false → operands_of form ≡ x ∷ y ∷ [] → instr_atoms form ≡ operand_atoms x ++ operand_atoms y → instr_in names headers body form ≡ i → is_settled headers body form ≡ true → IsInstrBack names headers body form i
@@ -64,14 +64,12 @@ AreCalled names headers fs = (k : ℕ) (f : Function) → slice_get fs k ≡ Som
 
 -- the text of a function's name
 pub name_form : (names : Texts) (atom arity : ℕ) → IsNames names → atom < length names → arity ≤ 15 → is_function_form (atom_text names atom) (decimal arity) ≡ true
-name_form names atom arity sound held few = and_from (is_atom_text (atom_text names atom)) (is_arity_text (decimal arity)) (held_atom names atom sound held).form (arity_writes arity few)
+name_form names atom arity sound held few = and_from _ _ (held_atom names atom sound held).form (arity_writes arity few)
 
 call_low : (at arity : ℕ) → arity ≤ 15 → IsCallPlace at arity → is_high_call (decimal arity) (decimal at) ≡ false
 call_low at arity few place =
     let w = register_writes at place.back in
-    let v = decimal-writes arity (omega arith) in
-    or_from (is_high (decimal at)) (not (nat_le (number_value (decimal at) + number_value (decimal arity)) 16)) w.low
-    (not_from_true (nat_le (number_value (decimal at) + number_value (decimal arity)) 16) ((λ j. nat_le (w.value j + v.value j) 16) ∙ le-leb (at + arity) 16 place.arguments))
+    or_from _ _ w.low (not_from_true _ ((λ j. nat_le (w.value j + (decimal-writes arity (omega arith)).value j) 16) ∙ le-leb _ 16 place.arguments))
 
 module _ (names : Texts) (headers : List HeaderForm) (body : List LineForm) (fs : List Function) where
   call_back : (k at : ℕ) (o : Option Function) → IsNames names → AreCalled names headers fs → slice_get fs k ≡ o → IsSomeAnd o (λ f. IsCallPlace at f.arity) → IsInstrBack names headers body (written_call names o at) (Call k at)
@@ -79,13 +77,12 @@ module _ (names : Texts) (headers : List HeaderForm) (body : List LineForm) (fs 
   call_back k at (Some f) sound called is place =
       let c = called k f is in
       let w = register_writes at place.back in
-      let name = atom_text names f.name.0 in
       record {
-        sound = and_from (is_function_form name (decimal f.arity)) (is_number_text (decimal at)) (name_form names f.name.0 f.arity sound c.held c.arity) w.form;
+        sound = and_from _ _ (name_form names _ _ sound c.held c.arity) w.form;
         low = call_low at f.arity c.arity place;
         narrow = refl;
         short = refl;
-        known = no_new_name names name f.name.0 (held_atom names f.name.0 sound c.held);
+        known = no_new_name names (atom_text names _) _ (held_atom names _ sound c.held);
         value = λ j. Call (ap (λ o. unwrap_or o 0) c.number j) (w.value j);
         settled = ap is_some c.number;
       }
@@ -94,17 +91,17 @@ module _ (names : Texts) (headers : List HeaderForm) (body : List LineForm) (fs 
   external_back to at sound outer inner is place =
       let few : to.arity ≤ 15 = is.arity in
       let w = register_writes at place.back in
-      let v = decimal-writes to.arity (omega arith) in
-      let name = atom_text names to.«module».0 in
+      let v = decimal-writes _ (omega arith) in
+      let name = atom_text names _ in
       let function = atom_text names to.name.0 in
-      let first = held_atom names to.«module».0 sound outer in
+      let first = held_atom names _ sound outer in
       record {
-        sound = and_from (is_atom_text name) (is_function_form function (decimal to.arity) && is_number_text (decimal at)) first.form (and_from (is_function_form function (decimal to.arity)) (is_number_text (decimal at)) (name_form names to.name.0 to.arity sound inner few) w.form);
+        sound = and_from _ _ first.form (and_from _ _ (name_form names _ _ sound inner few) w.form);
         low = call_low at to.arity few place;
         narrow = refl;
         short = refl;
-        known = both_known names (name ∷ []) (function ∷ []) (no_new_name names name to.«module».0 first) (no_new_name names function to.name.0 (held_atom names to.name.0 sound inner));
-        value = λ j. CallExt (record { «module» = atom_back names to.«module» sound outer j; name = atom_back names to.name sound inner j; arity = v.value j }) (w.value j);
+        known = both_known names (name ∷ []) (function ∷ []) (no_new_name names name _ first) (no_new_name names _ _ (held_atom names _ sound inner));
+        value = λ j. CallExt (record { «module» = atom_back names _ sound outer j; name = atom_back names _ sound inner j; arity = v.value j }) (w.value j);
         settled = refl;
       }
 
@@ -125,8 +122,8 @@ module _ (names : Texts) (headers : List HeaderForm) (body : List LineForm) (fs 
       let w = register_writes to is.1 in
       let x = written_operand names from in
       record {
-        sound = and_from (is_operand_form x) (is_number_text (decimal to)) a.sound w.form;
-        low = or_from (has_high_operand x) (is_high (decimal to)) a.low w.low;
+        sound = and_from _ _ a.sound w.form;
+        low = or_from _ _ a.low w.low;
         narrow = a.narrow;
         short = a.short;
         known = a.known;
@@ -160,8 +157,8 @@ module _ (names : Texts) (headers : List HeaderForm) (body : List LineForm) (fs 
   instr_back (Jump target) is held targets =
       let t = targets target is (itself target) in
       record { sound = label_form target (omega (arith, is)); low = refl; narrow = refl; short = refl; known = refl; value = ap (λ o. Jump (unwrap_or o 0)) t; settled = ap is_some t }
-  instr_back (Call k at) is held targets = call_back names headers body fs k at (slice_get fs k) sound called refl is
-  instr_back (CallExt to at) is held targets = external_back names headers body fs to at sound held.0 held.1 is.0 is.1
+  instr_back (Call k at) is held targets = call_back names _ body fs k at (slice_get fs k) sound called refl is
+  instr_back (CallExt to at) is held targets = external_back names _ body fs to at sound held.0 held.1 is.0 is.1
   instr_back (Ret value) is held targets =
       let a = operand_back names value sound is held in
       record { sound = a.sound; low = a.low; narrow = a.narrow; short = a.short; known = a.known; value = ap (λ v. Ret v) a.value; settled = refl }
@@ -169,11 +166,11 @@ module _ (names : Texts) (headers : List HeaderForm) (body : List LineForm) (fs 
       let h = held_atom names key.0 sound held in
       let w = register_writes to is.1 in
       record {
-        sound = and_from (is_atom_text (atom_text names key.0)) (is_number_text (decimal to)) h.form w.form;
+        sound = and_from _ _ h.form w.form;
         low = w.low;
         narrow = refl;
         short = refl;
-        known = no_new_name names (atom_text names key.0) key.0 h;
+        known = no_new_name names _ key.0 h;
         value = λ j. Pget (atom_back names key sound held j) (w.value j);
         settled = refl;
       }

@@ -4,14 +4,14 @@ use Rattle.std.proofs.Common.{length, map, decimal, Option, Some, None, bytes_eq
 use Rattle.std.proofs.Common.{subst, arith, append_assoc, length-append, suc, option_map, slice_index_or}
 use Rattle.mod_text.proofs.Common.{fold-append, list_any, flat_map, and_from, le-ltb, lt-leb, append-nil, length-map}
 use Rattle.mod_text.proofs.Common.{map-append, All-head, All-tail, All-weaker, slice_get_within, list_any_at, Texts}
-use Rattle.mod_text.proofs.Texts.{is_atom_text, IsNames, atom_text, slice_get-append, failed, decimal-writes}
+use Rattle.mod_text.proofs.Texts.{IsNames, atom_text, slice_get-append, failed, decimal-writes}
 use Rattle.mod_text.proofs.Types.{Instr, Function, Module}
 use Rattle.mod_text.proofs.Forms.{label_text, written_instr, goes_to, labels_at, lines_from}
 use Rattle.mod_text.proofs.Forms.{function_lines, canonical, is_open, is_in_function, may_follow, last_line}
-use Rattle.mod_text.proofs.Forms.{has_high_register, has_wide_integer, has_long_term, names_after, overfills_names}
+use Rattle.mod_text.proofs.Forms.{has_high_register, has_wide_integer, has_long_term, names_after}
 use Rattle.mod_text.proofs.Forms.{open_labels, labels_after, is_seventeenth, is_repeated, place_fault, IsNext}
 use Rattle.mod_text.proofs.Forms.{ends_too_long, InstrForm, LineForm, title, header, label, instr, end}
-use Rattle.mod_text.proofs.Forms.{is_version_text, is_line_form, line_written, lines_written, FollowOn}
+use Rattle.mod_text.proofs.Forms.{is_line_form, line_written, lines_written, FollowOn}
 use Rattle.mod_text.proofs.Forms.{names_behind, ModuleText, HeaderForm, headers_in, is_header}
 use Rattle.mod_text.proofs.Forms.{label_number, function_in, module_of, first_unsettled}
 use Rattle.mod_text.proofs.Keepings.{headers_in-append, last_line-push}
@@ -48,7 +48,7 @@ module _ (names : Texts) where
   pub title_plain : (atom version : ℕ) → IsNames names → atom < length names → 1 ≤ version → version ≤ 999999 → IsPlain names (title (atom_text names atom) (decimal version))
   title_plain atom version sound held least greatest =
       let h = held_atom names atom sound held in
-      record { sound = and_from (is_atom_text (atom_text names atom)) (is_version_text (decimal version)) h.form (version_writes version least greatest); low = refl; narrow = refl; short = refl; known = no_new_name names (atom_text names atom) atom h }
+      record { sound = and_from _ _ h.form (version_writes _ least greatest); low = refl; narrow = refl; short = refl; known = no_new_name names _ atom h }
 
   header_plain : (f : Function) → IsNames names → IsNamed names f → IsPlain names (header f.exported (atom_text names f.name.0) (decimal f.arity))
   header_plain f sound named = record {
@@ -60,7 +60,7 @@ module _ (names : Texts) where
   }
 
   label_plain : (number : ℕ) → number < 2 ^ 64 → IsPlain names (label (label_text number))
-  label_plain number small = record { sound = label_form number small; low = refl; narrow = refl; short = refl; known = refl }
+  label_plain number small = record { sound = label_form _ small; low = refl; narrow = refl; short = refl; known = refl }
 
   pub instr_plain : (headers : List HeaderForm) (body : List LineForm) (form : InstrForm) (i : Instr) → IsInstrBack names headers body form i → IsPlain names (instr form)
   instr_plain headers body form i back = record { sound = back.sound; low = back.low; narrow = back.narrow; short = back.short; known = back.known }
@@ -71,23 +71,20 @@ module _ (names : Texts) where
   -- such a line may come next where it may stand and passes no limit by the lines before it
   pub is_next : (before : List LineForm) (line : LineForm) → IsNames names → IsPlain names line → may_follow (last_line before) line ≡ true → place_fault names before line ≡ None → IsNext names before (line_written line) line
   is_next before line sound plain place none =
-      let few : overfills_names names line ≡ false = ap (λ ns. nat_lt 4096 (length ns)) plain.known ∙ le-ltb 4096 (length names) sound.room in
       record {
         stands = record { is_text = record { text_is = refl; sound = plain.sound }; place = place };
         within =
-            failed (has_high_register line) (Some faults.Register) (cond (has_wide_integer line) (Some faults.Int) (cond (has_long_term line) (Some faults.Term) (cond (overfills_names names line) (Some faults.Names) (place_fault names before line)))) plain.low
-            ∙ failed (has_wide_integer line) (Some faults.Int) (cond (has_long_term line) (Some faults.Term) (cond (overfills_names names line) (Some faults.Names) (place_fault names before line))) plain.narrow
-            ∙ failed (has_long_term line) (Some faults.Term) (cond (overfills_names names line) (Some faults.Names) (place_fault names before line)) plain.short
-            ∙ failed (overfills_names names line) (Some faults.Names) (place_fault names before line) few ∙ none;
+            failed _ _ _ plain.low ∙ failed _ _ _ plain.narrow ∙ failed _ _ _ plain.short
+            ∙ failed _ _ _ (ap (λ ns. nat_lt 4096 (length ns)) plain.known ∙ le-ltb 4096 _ sound.room) ∙ none;
       }
 
   pub next-append : (before xs ys : List LineForm) → AreNext names before xs → AreNext names (before ++ xs) ys → AreNext names before (xs ++ ys)
-  next-append before [] ys first second = subst (λ b. AreNext names b ys) (append-nil before) second
-  next-append before (x ∷ xs) ys first second = (first.0, first.1, next-append (before ++ x ∷ []) xs ys first.2 (subst (λ b. AreNext names b ys) (sym (append_assoc before (x ∷ []) xs)) second))
+  next-append before [] ys first second = subst (λ b. AreNext names b ys) (append-nil _) second
+  next-append before (x ∷ xs) ys first second = (first.0, first.1, next-append _ xs ys first.2 (subst (λ b. AreNext names b ys) (sym (append_assoc _ _ xs)) second))
 
   pub follow_on : (before lines : List LineForm) → AreNext names before lines → FollowOn names before lines
   follow_on before [] next = tt
-  follow_on before (line ∷ lines) next = (next.0, subst (λ ns. FollowOn ns (before ++ line ∷ []) lines) (sym next.1) (follow_on (before ++ line ∷ []) lines next.2))
+  follow_on before (line ∷ lines) next = (next.0, subst (λ ns. FollowOn ns (before ++ line ∷ []) lines) (sym next.1) (follow_on _ lines next.2))
 
   pub same_names : (before lines : List LineForm) → AreNext names before lines → names_behind names lines ≡ names
   same_names before [] next = refl
@@ -160,18 +157,17 @@ module _ (names : Texts) (fs : List Function) where
   headers_behind done f before are =
       let body = lines_from names fs f.code 0 f.code in
       let none : headers_in body ≡ [] = ap headers_in (sym (append-nil body)) ∙ headers_in-body body [] (lines_are_body names fs f.code 0 f.code) in
-      headers_in-append before (function_lines names fs f) ∙ (λ j. are j ++ header_form names f ∷ none j) ∙ sym (map-append (header_form names) done (f ∷ []))
+      headers_in-append before (function_lines names fs f) ∙ (λ j. are j ++ header_form names f ∷ none j) ∙ sym (map-append (header_form names) done _)
 
   -- the lines of functions stand in a row behind those of the functions before
   pub functions_rows : (done gs : List Function) (before : List LineForm) → IsNames names → AreApart fs → All (IsNamed names) fs → length fs ≤ 16 → fs ≡ done ++ gs → All (IsPlainFunction names fs) gs → is_open (last_line before) ≡ true → headers_in before ≡ map (header_form names) done → AreNext names before (flat_map (function_lines names fs) gs)
   functions_rows done [] before sound apart named few whole plain opened are = tt
   functions_rows done (g ∷ gs) before sound apart named few whole plain opened are =
       let test = is_header (atom_text names g.name.0) (decimal g.arity) in
-      let room : length (headers_in before) < 16 = omega (arith, few, ap length are, length-map done (header_form names), ap length whole, length-append done (g ∷ gs)) in
+      let room : length (headers_in before) < 16 = omega (arith, ap length are, length-map done (header_form names), ap length whole, length-append done (g ∷ gs)) in
       let here : slice_get fs (length done) ≡ Some g = ap (λ l. slice_get l (length done)) whole ∙ slice_get-behind done g gs in
       let new : list_any test (headers_in before) ≡ false =
-      ap (list_any test) are ∙ any_map test (header_form names) done
-      ∙ list_any-none (λ f. test (header_form names f)) done (λ j f there.
+      ap (list_any test) are ∙ any_map test (header_form names) done ∙ list_any-none (λ f. test (header_form names f)) done (λ j f there.
       let less = slice_get_within done j f there in
       other_header names fs j (length done) f g sound apart named less (ap (λ l. slice_get l j) whole ∙ slice_get-append done (g ∷ gs) j less ∙ there) here) in
       next-append names before (function_lines names fs g) (flat_map (function_lines names fs) gs)
@@ -190,7 +186,7 @@ module _ (names : Texts) (fs : List Function) where
 -- ---- code is short
 
 short_codes : (m : Module) → IsModule m → All (λ f. length f.code < 2 ^ 64) m.functions
-short_codes m is = All-weaker (λ f. length f.code ≤ 1024) (λ f. length f.code < 2 ^ 64) (λ f few. omega (arith, few)) m.functions (few_instrs m is)
+short_codes m is = All-weaker (λ f. length f.code ≤ 1024) (λ f. length f.code < 2 ^ 64) (λ f few. omega arith) _ (few_instrs m is)
 
 -- ---- functions
 
@@ -199,8 +195,8 @@ module _ (names : Texts) where
   targets_named : (fs : List Function) (f : Function) (k : ℕ) (d : Instr) → length f.code < 2 ^ 64 → k < length f.code → HasTargets (own_lines names fs f) (length f.code) (slice_index_or f.code k d)
   targets_named fs f k d short within target past goes =
       let same : 0 + target ≡ target = omega arith in
-      let among : list_any (goes_to target) f.code ≡ true = list_any_at (goes_to target) f.code k d within goes in
-      subst (λ n. label_number (label_text n) (own_lines names fs f) ≡ Some target) same (label_number-lines names fs f.code 0 f.code target (omega (arith, short)) past (ap (λ n. list_any (goes_to n) f.code) same ∙ among))
+      let among : list_any (goes_to target) f.code ≡ true = list_any_at _ _ k d within goes in
+      subst (λ n. label_number (label_text n) (own_lines names fs f) ≡ Some target) same (label_number-lines names fs f.code 0 _ _ (omega arith) past (ap (λ n. list_any (goes_to n) f.code) same ∙ among))
 
   functions_named : (m : Module) → IsModule m → IsModuleHeld names m → All (IsNamed names) m.functions
   functions_named m is held k d within = record { held = (held.functions k d within).name; few = (is.functions k d within).arity }
@@ -230,7 +226,7 @@ module _ (names : Texts) where
   -- ---- the module
 
   headers_of_canonical : (m : Module) → headers_in (canonical names m) ≡ map (header_form names) m.functions
-  headers_of_canonical m = headers_are names m.functions m.functions
+  headers_of_canonical m = headers_are names _ _
 
   -- the canonical lines of a module say it
   value_back : (m : Module) → IsNames names → IsModule m → IsModuleHeld names m → module_of names (canonical names m) ≡ m

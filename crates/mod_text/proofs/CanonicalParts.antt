@@ -14,7 +14,7 @@ use Rattle.mod_text.proofs.Texts.{signed_decimal-says, texts_are_atoms, position
 use Rattle.mod_text.proofs.Texts.{number_value, is_number_text, decimal-writes, same_bytes, bytes_are}
 use Rattle.term_core.specs.PlainTerm.{PlainTerm, EachLeaf, integer_leaf, atom_leaf, tuple_of, list_of, map_leaves, term_words}
 use Rattle.term_core.specs.TermForms.{is_bracketed, IsFormOf}
-use Rattle.term_core.specs.Written.{WrittenTerm, HasLeafTexts, outside_of}
+use Rattle.term_core.specs.Written.{WrittenTerm, HasLeafTexts}
 use Rattle.term_core.proofs.LeafFacts.{EachLeaf-weaker, EachLeaf-both, EachLeaf-map, term_words-map}
 use Rattle.term_core.proofs.Ranges.{fits_of_none}
 use Rattle.term_core.proofs.TermForms.{form_is, printed_is}
@@ -67,21 +67,20 @@ constant_in names form = term_of (map_leaves integer_of (number_in names) form)
 
 module _ (names : Texts) (form : WrittenTerm) where
   constant_says : plain (constant_in names form) ≡ map_leaves integer_of (number_in names) form
-  constant_says = plain-term_of (map_leaves integer_of (number_in names) form)
+  constant_says = plain-term_of _
 
   -- it has as many words
   constant_words : term_words (plain (constant_in names form)) ≡ term_words form
-  constant_words = ap (λ (t : PlainTerm). term_words t) constant_says ∙ term_words-map integer_of (number_in names) form
+  constant_words = ap (λ (t : PlainTerm). term_words t) constant_says ∙ term_words-map _ _ form
 
   constant_fits : is_wide_operand (constant form) ≡ false → EachLeaf {A = ℕ} IsTermInteger (λ _. Unit {0}) (plain (constant_in names form))
   constant_fits narrow =
-      subst (EachLeaf {A = ℕ} IsTermInteger (λ _. Unit {0})) (sym constant_says) (EachLeaf-map IsTermInteger (λ _. Unit {0}) integer_of (number_in names) form (fits_of_none form (none_by (outside_of form) narrow)))
+      subst (EachLeaf {A = ℕ} IsTermInteger (λ _. Unit {0})) (sym constant_says) (EachLeaf-map IsTermInteger (λ _. Unit {0}) _ _ form (fits_of_none form (none_by _ narrow)))
 
   -- its atoms are below a bound where each number is
   pub constant_held : is_term_form form ≡ true → (bound : ℕ) → ((t : List ℕ) → number_in names t < bound) → EachLeaf {Z = ℤ} (λ _. Unit {0}) (λ a. a < bound) (plain (constant_in names form))
   constant_held sound bound every =
-      subst (EachLeaf {Z = ℤ} (λ _. Unit {0}) (λ a. a < bound)) (sym constant_says)
-      (EachLeaf-map (λ _. Unit {0}) (λ a. a < bound) integer_of (number_in names) form
+      subst (EachLeaf {Z = ℤ} (λ _. Unit {0}) (λ a. a < bound)) (sym constant_says) (EachLeaf-map (λ _. Unit {0}) (λ a. a < bound) _ _ form
       (EachLeaf-weaker (λ t. IsTrue (is_integer_text t)) (λ _. Unit {0}) (λ t. IsTrue (is_atom_text t)) (λ t. number_in names t < bound) (λ t _. tt) (λ t _. every t) form (leaf_texts form sound)))
 
   -- a constant within its limits
@@ -114,9 +113,8 @@ position-at p (y ∷ ys) zero x here passes first =
     let same : y ≡ x = cc in
     position-cons p y ys ∙ ap (λ b. cond b (Some 0) (option_map (λ i. i + 1) (position p ys))) (ap p same ∙ passes)
 position-at p (y ∷ ys) (suc k) x here passes first =
-    let later = position-at p ys k x here passes (λ j z less there. first (suc j) z (omega arith) there) in
     position-cons p y ys ∙ ap (λ b. cond b (Some 0) (option_map (λ i. i + 1) (position p ys))) (first 0 y (omega arith) refl)
-    ∙ ap (option_map (λ i. i + 1)) later ∙ ap (λ n. Some n) (add-one k)
+    ∙ ap (option_map (λ i. i + 1)) (position-at p ys k x here passes (λ j z less there. first (suc j) z (omega arith) there)) ∙ ap (λ n. Some n) (add-one k)
 
 -- none passes
 pub list_any-none : {X : Type 0} (p : X → Bool) (xs : List X) → ((j : ℕ) (y : X) → slice_get xs j ≡ Some y → p y ≡ false) → list_any p xs ≡ false
@@ -143,7 +141,7 @@ held_atom names atom sound held =
 
 -- its text is read as that atom
 pub atom_back : (names : Texts) (atom : AtomId) → IsNames names → atom.0 < length names → atom_in names (atom_text names atom.0) ≡ atom
-atom_back names atom sound held = ap (λ (o : Option ℕ). record { 0 = unwrap_or o 0 }) (held_atom names atom.0 sound held).number
+atom_back names atom sound held = ap (λ (o : Option ℕ). record { 0 = unwrap_or o 0 }) (held_atom names _ sound held).number
 
 -- and adds no name
 pub no_new_name : (names : Texts) (text : List ℕ) (atom : ℕ) → IsHeldAtom names text atom → names_with_all names (text ∷ []) ≡ names
@@ -159,13 +157,12 @@ held_apart names a b sound first second same =
 pub arity_writes : (arity : ℕ) → arity ≤ 15 → is_arity_text (decimal arity) ≡ true
 arity_writes arity few =
     let w = decimal-writes arity (omega arith) in
-    and_from (is_number_text (decimal arity)) (nat_le (number_value (decimal arity)) 15) w.form (ap (λ n. nat_le n 15) w.value ∙ le-leb arity 15 few)
+    and_from _ _ w.form (ap (λ n. nat_le n 15) w.value ∙ le-leb arity 15 few)
 
 pub version_writes : (version : ℕ) → 1 ≤ version → version ≤ 999999 → is_version_text (decimal version) ≡ true
 version_writes version least greatest =
-    let w = decimal-writes version (omega arith) in
-    and_from (is_number_text (decimal version)) (nat_le 1 (number_value (decimal version)) && nat_le (number_value (decimal version)) 999999) w.form
-    (and_from (nat_le 1 (number_value (decimal version))) (nat_le (number_value (decimal version)) 999999) (ap (nat_le 1) w.value ∙ le-leb 1 version least) (ap (λ n. nat_le n 999999) w.value ∙ le-leb version 999999 greatest))
+    let w = decimal-writes _ (omega arith) in
+    and_from _ _ w.form (and_from _ _ (ap (nat_le 1) w.value ∙ le-leb 1 _ least) (ap (λ n. nat_le n 999999) w.value ∙ le-leb _ 999999 greatest))
 
 -- what is written of a register
 pub record WritesRegister (number : ℕ) : Type 0 where
@@ -175,16 +172,14 @@ pub record WritesRegister (number : ℕ) : Type 0 where
 
 pub register_writes : (number : ℕ) → number < 16 → WritesRegister number
 register_writes number low =
-    let w = decimal-writes number (omega arith) in
-    record { form = w.form; low = not_from_true (nat_lt (number_value (decimal number)) 16) (ap (λ n. nat_lt n 16) w.value ∙ lt-ltb number 16 low); value = w.value }
+    let w = decimal-writes _ (omega arith) in
+    record { form = w.form; low = not_from_true _ (ap (λ n. nat_lt n 16) w.value ∙ lt-ltb _ 16 low); value = w.value }
 
 -- ---- labels
 
 -- the label of a number is an atom's text
 pub label_form : (number : ℕ) → number < 2 ^ 64 → is_atom_text (label_text number) ≡ true
-label_form number small =
-    and_from (list_all is_name_byte (decimal number)) (nat_lt (length (decimal number)) 32) (name_bytes-decimal number small)
-    (lt-ltb (length (decimal number)) 32 (omega (arith, length-decimal-le 20 number (omega arith) (omega arith) small)))
+label_form number small = and_from _ _ (name_bytes-decimal _ small) (lt-ltb _ 32 (omega (arith, length-decimal-le 20 _ (omega arith) (omega arith) small)))
 
 -- labels of two numbers differ
 pub labels_differ : (a b : ℕ) → a < 2 ^ 64 → b < 2 ^ 64 → (a ≡ b → ⊥) → bytes_eq (label_text a) (label_text b) ≡ false
@@ -206,12 +201,12 @@ pub record IsOperandBack (names : Texts) (form : OperandForm) (o : Operand) : Ty
 constant_back : (names : Texts) (term : Term) → IsNames names → IsConstant term → IsConstantAmong (length names) term → IsOperandBack names (constant (term_form names (plain term))) (Const term)
 constant_back names term sound is held =
     let form = term_form names (plain term) in
-    let leaves = EachLeaf-both IsTermInteger (λ _. Unit {0}) (λ a. a < 4096) (λ a. a < length names) (plain term) is.leaves held in
+    let leaves = EachLeaf-both IsTermInteger (λ _. Unit {0}) (λ a. a < 4096) (λ a. a < length names) _ is.leaves held in
     let term_is : IsTerm names term =
-    EachLeaf-weaker (λ z. IsTermInteger z × Unit {0}) IsTermInteger (λ a. (a < 4096) × (a < length names)) (λ a. IsSome (slice_get names a)) (λ z p. p.0) (λ a p. ap is_some (slice_get-get_or names a [] p.1)) (plain term) leaves in
-    let texts : HasLeafTexts form = EachLeaf-map (λ t. IsTrue (is_integer_text t)) (λ t. IsTrue (is_atom_text t)) signed_decimal (atom_text names) (plain term)
-    (EachLeaf-weaker (λ z. IsTermInteger z × Unit {0}) (λ z. IsTrue (is_integer_text (signed_decimal z))) (λ a. (a < 4096) × (a < length names)) (λ a. IsTrue (is_atom_text (atom_text names a))) (λ z p. (signed_decimal-says z p.0).form) (λ a p. (held_atom names a sound p.1).form) (plain term) leaves) in
-    let shown : IsFormOf (term_text names term) form = form_is (term_text names term) form (record { whole = refl; leaves = texts }) in
+    EachLeaf-weaker (λ z. IsTermInteger z × Unit {0}) IsTermInteger (λ a. (a < 4096) × (a < length names)) (λ a. IsSome _) (λ z p. p.0) (λ a p. ap is_some (slice_get-get_or names a [] p.1)) _ leaves in
+    let texts : HasLeafTexts form = EachLeaf-map (λ t. IsTrue (is_integer_text t)) (λ t. IsTrue (is_atom_text t)) _ _ _
+    (EachLeaf-weaker (λ z. IsTermInteger z × Unit {0}) (λ z. IsTrue (is_integer_text (signed_decimal z))) (λ a. (a < 4096) × (a < length names)) (λ a. IsTrue (is_atom_text (atom_text names a))) (λ z p. (signed_decimal-says z p.0).form) (λ a p. (held_atom names a sound p.1).form) _ leaves) in
+    let shown : IsFormOf (term_text names term) form = form_is _ form (record { whole = refl; leaves = texts }) in
     let p = printed_is names term sound term_is in
     let few : term_words (plain term) ≤ 64 = is.short in
     let words : term_words form ≡ term_words (plain term) = sym shown.words ∙ p.words in
@@ -226,6 +221,6 @@ constant_back names term sound is held =
 
 pub operand_back : (names : Texts) (o : Operand) → IsNames names → IsOperand o → IsOperandAmong (length names) o → IsOperandBack names (written_operand names o) o
 operand_back names (Reg number) sound is held =
-    let w = register_writes number is in
+    let w = register_writes _ is in
     record { sound = w.form; low = w.low; narrow = refl; short = refl; known = refl; value = ap (λ n. Reg n) w.value }
 operand_back names (Const term) sound is held = constant_back names term sound is held

@@ -1,6 +1,6 @@
 -- What canonical lines say: the module that they were written of, with every label and local function found.
 use Rattle.std.proofs.Common.{◌≡◌, ℕ, ◌<◌, ◌≤◌, true, false, List, [], ◌∷◌, ◌++◌, length, map, decimal, Some, bytes_eq, slice_get, All, refl}
-use Rattle.std.proofs.Common.{◌∙◌, arith, zero, suc, ◌+◌, ◌^◌, Bool, cond, ◌||◌, option_map, sym, ap, subst, append_assoc, None}
+use Rattle.std.proofs.Common.{◌∙◌, arith, zero, suc, ◌+◌, ◌^◌, Bool, cond, option_map, sym, ap, subst, append_assoc, None}
 use Rattle.mod_text.proofs.Common.{and_parts, and_from, false_from_ne_true, or_from, decimal_injective, list_any}
 use Rattle.mod_text.proofs.Common.{flat_map, append-nil, list_any-append, All-head, All-tail, Texts}
 use Rattle.mod_text.proofs.Common.{All-weaker}
@@ -36,21 +36,20 @@ AreApart fs = (i j : ℕ) → i < j → SameFunction fs i j → ⊥
 module _ (names : Texts) (fs : List Function) (i j : ℕ) (f g : Function) (sound : IsNames names) where
   same_function : IsNamed names f → IsNamed names g → slice_get fs i ≡ Some f → slice_get fs j ≡ Some g → is_header (atom_text names g.name.0) (decimal g.arity) (header_form names f) ≡ true → SameFunction fs i j
   same_function first second here there same =
-      let parts = and_parts (bytes_eq (atom_text names f.name.0) (atom_text names g.name.0)) (bytes_eq (decimal f.arity) (decimal g.arity)) same in
-      let atoms : f.name.0 ≡ g.name.0 = held_apart names f.name.0 g.name.0 sound first.held second.held (bytes_are (atom_text names f.name.0) (atom_text names g.name.0) parts.0) in
+      let parts = and_parts _ _ same in
       record {
         first = f;
         second = g;
         first_at = here;
         second_at = there;
-        name = λ k. record { 0 = atoms k };
-        arity = decimal_injective f.arity g.arity (omega (arith, first.few)) (omega (arith, second.few)) (bytes_are (decimal f.arity) (decimal g.arity) parts.1);
+        name = λ k. record { 0 = (held_apart names _ _ sound first.held second.held (bytes_are _ _ parts.0)) k };
+        arity = decimal_injective _ _ (omega (arith, first.few)) (omega (arith, second.few)) (bytes_are _ _ parts.1);
       }
 
   -- the header of one before is another
   pub other_header : AreApart fs → All (IsNamed names) fs → i < j → slice_get fs i ≡ Some f → slice_get fs j ≡ Some g → is_header (atom_text names g.name.0) (decimal g.arity) (header_form names f) ≡ false
   other_header apart named less here there =
-      false_from_ne_true (is_header (atom_text names g.name.0) (decimal g.arity) (header_form names f))
+      false_from_ne_true _
       (λ same. apart i j less (same_function (all_at (IsNamed names) fs i f named here) (all_at (IsNamed names) fs j g named there) here there same))
 
 -- each function is called by the text of its name and its arity
@@ -130,7 +129,7 @@ label_here false text lines h = absurd cc
 
 -- it is another that stands there, or none
 label_later : (t : Bool) (text wanted : List ℕ) (lines : List LineForm) → bytes_eq text wanted ≡ false → label_number wanted (cond t (label text ∷ []) [] ++ lines) ≡ label_number wanted lines
-label_later true text wanted lines h = failed (bytes_eq text wanted) (some 0) (label_number wanted lines) h
+label_later true text wanted lines h = failed _ _ _ h
 label_later false text wanted lines h = refl
 
 module _ (names : Texts) (fs : List Function) (code : List Instr) where
@@ -151,12 +150,11 @@ module _ (names : Texts) (fs : List Function) (code : List Instr) where
   label_number-lines number (i ∷ is) zero small within goes =
       let same : number + 0 ≡ number = omega arith in
       let rest = instr (written_instr names fs i) ∷ lines_from names fs code (number + 1) is in
-      ap (λ n. label_number (label_text n) (labels_at code number ++ rest)) same
-      ∙ label_here (list_any (goes_to number) code) (label_text number) rest (ap (λ n. list_any (goes_to n) code) (sym same) ∙ goes)
+      ap (λ n. label_number (label_text n) (labels_at code number ++ rest)) same ∙ label_here _ _ rest (ap (λ n. list_any (goes_to n) code) (sym same) ∙ goes)
   label_number-lines number (i ∷ is) (suc k) small within goes =
       let same : number + suc k ≡ number + 1 + k = omega arith in
       let rest = lines_from names fs code (number + 1) is in
-      label_later (list_any (goes_to number) code) (label_text number) (label_text (number + suc k)) (instr (written_instr names fs i) ∷ rest) (labels_differ number (number + suc k) (omega arith) (omega arith) (λ e. omega (arith, e)))
+      label_later (list_any (goes_to number) code) (label_text number) (label_text (number + suc k)) (instr (written_instr names fs i) ∷ rest) (labels_differ number (number + suc k) (omega arith) (omega arith) (λ e. omega arith))
       ∙ ap (λ n. option_map suc (label_number (label_text n) rest)) same
       ∙ ap (option_map suc) (label_number-lines (number + 1) is k (omega arith) (omega arith) (ap (λ n. list_any (goes_to n) code) (sym same) ∙ goes))
 
@@ -167,9 +165,8 @@ NewFrom number labels = (later : ℕ) → number ≤ later → later < 2 ^ 64 �
 -- the next one is new where this one is added
 pub new_label : (number : ℕ) (labels : Texts) → number < 2 ^ 64 → NewFrom number labels → NewFrom (number + 1) (labels ++ label_text number ∷ [])
 new_label number labels small new later less fits =
-    list_any-append (bytes_eq (label_text later)) labels (label_text number ∷ [])
-    ∙ or_from (list_any (bytes_eq (label_text later)) labels) (bytes_eq (label_text later) (label_text number) || false) (new later (omega arith) fits)
-    (or_from (bytes_eq (label_text later) (label_text number)) false (labels_differ later number fits small (λ e. omega (arith, e))) refl)
+    list_any-append (bytes_eq (label_text later)) labels (label_text number ∷ []) ∙ or_from _ _ (new later (omega arith) fits)
+    (or_from _ false (labels_differ later _ fits small (λ e. omega arith)) refl)
 
 -- ---- what canonical lines say: the module that they were written of, with every label and local function found
 
@@ -200,9 +197,9 @@ module _ (names : Texts) (fs : List Function) (headers : List HeaderForm) where
 
   function_back : (f : Function) → IsNames names → IsFunctionBack names fs headers f → function_in names headers (function_form names fs f) ≡ f
   function_back f sound back =
-      let w = decimal-writes f.arity (omega (arith, back.named.few)) in
-      let code = ap (map (instr_in names headers (own_lines names fs f))) (instrs_in-lines names fs f.code 0 f.code) ∙ code_back f f.code back.code in
-      λ j. record { name = atom_back names f.name sound back.named.held j; arity = w.value j; exported = f.exported; code = code j }
+      let w = decimal-writes _ (omega (arith, back.named.few)) in
+      let code = ap (map _) (instrs_in-lines names fs f.code 0 _) ∙ code_back f _ back.code in
+      λ j. record { name = atom_back names _ sound back.named.held j; arity = w.value j; exported = f.exported; code = code j }
 
   pub functions_back : (gs : List Function) → IsNames names → All (IsFunctionBack names fs headers) gs → map (function_in names headers) (map (function_form names fs) gs) ≡ gs
   functions_back [] sound back = refl
@@ -226,7 +223,7 @@ module _ (names : Texts) (fs : List Function) where
   lines_stop (g ∷ gs) = refl
 
   body_is : (g : Function) (gs : List Function) → body_of (own_lines names fs g ++ lines_to_end names fs gs) ≡ own_lines names fs g
-  body_is g gs = body_of-body (own_lines names fs g) (lines_to_end names fs gs) (lines_are_body names fs g.code 0 g.code) (lines_stop gs)
+  body_is g gs = body_of-body _ _ (lines_are_body names fs g.code 0 g.code) (lines_stop gs)
 
   -- the headers are those of the functions
   pub headers_are : (gs : List Function) → headers_in (lines_to_end names fs gs) ≡ map (header_form names) gs
@@ -252,8 +249,8 @@ label_settled headers body false text lines none = none
 -- labels and instructions begin no function that lacks something
 body_settled : (headers : List HeaderForm) (body rest : List LineForm) → IsBody body → first_unsettled headers rest ≡ None → first_unsettled headers (body ++ rest) ≡ None
 body_settled headers [] rest is none = none
-body_settled headers (label name ∷ body) rest is none = ap (option_map suc) (body_settled headers body rest is none)
-body_settled headers (instr i ∷ body) rest is none = ap (option_map suc) (body_settled headers body rest is none)
+body_settled headers (label name ∷ body) rest is none = ap (option_map suc) (body_settled _ body rest is none)
+body_settled headers (instr i ∷ body) rest is none = ap (option_map suc) (body_settled _ body rest is none)
 body_settled headers body rest is none = absurd is
 
 module _ (names : Texts) (fs : List Function) (headers : List HeaderForm) where

@@ -19,14 +19,14 @@ module _ (before : Texts) (bytes : List ℕ) (first : ℕ) (after : Texts) where
 
   -- a reader that was closed begins with its title
   pub titled : (forms : List LineForm) → bytes_on before [] bytes ≡ Ok (after, forms) → IsTitled forms
-  titled forms e = let is = bytes_are_read before bytes after forms e in titled_is before forms is.faultless is.closed
+  titled forms e = let is = bytes_are_read _ bytes after forms e in titled_is _ forms is.faultless is.closed
 
   pub stopped_ends : (stop : LineStop) (fault : ModFault) → StopsSo (bytes_on before [] bytes) stop → IsFaultOr fault (mod_fault (first + stop.number) stop.fault) → Ends before bytes first after (Err fault)
   stopped_ends stop fault so (inl is) = stopped stop fault so is
   stopped_ends stop fault so (inr is) = no_memory fault is
 
   missing_ends : (forms : List LineForm) (number : ℕ) (fault : ModFault) → bytes_on before [] bytes ≡ Ok (after, forms) → unsettled_line forms ≡ Some number → IsFaultOr fault (mod_faults.Label (first + number)) → Ends before bytes first after (Err fault)
-  missing_ends forms number fault e lacking (inl is) = missing forms number fault e lacking is
+  missing_ends forms number fault e lacking (inl is) = missing forms _ fault e lacking is
   missing_ends forms number fault e lacking (inr is) = no_memory fault is
 
   pub unsettled_ends : (forms : List LineForm) (unsettled : FinishFault) (fault : ModFault) → bytes_on before [] bytes ≡ Ok (after, forms) → IsMissing forms unsettled → IsLabelFault first unsettled fault → Ends before bytes first after (Err fault)
@@ -37,7 +37,7 @@ module _ (before : Texts) (bytes : List ℕ) (first : ℕ) (after : Texts) where
 
   pub read_is : (r : Result Module ModFault) → Ends before bytes first after r → IfOk r (λ m. ModuleText before bytes m after)
   read_is _ (read forms m e value settled) =
-      let is = bytes_are_read before bytes after forms e in
+      let is = bytes_are_read _ bytes after forms e in
       record { lines = forms; spelled = is.spelled; faultless = is.faultless; closed = is.closed; settled = settled; named = is.names_are; value = value }
   read_is _ _ = tt
 
@@ -51,7 +51,7 @@ module _ (before : Texts) (bytes : List ℕ) (first : ℕ) (after : Texts) where
   same_read : (forms others : List LineForm) (names named : Texts) → bytes_on before [] bytes ≡ Ok (names, forms) → bytes_on before [] bytes ≡ Ok (named, others) → (names ≡ named) × (forms ≡ others)
   same_read forms others names named e f =
       let whole : ◌≡◌ {A = Read} (Ok (names, forms)) (Ok (named, others)) = sym e ∙ f in
-      let same : ◌≡◌ {A = Texts × List LineForm} (names, forms) (named, others) = ok_is (names, forms) (named, others) whole in
+      let same : ◌≡◌ {A = Texts × List LineForm} (names, forms) (named, others) = ok_is _ _ whole in
       (ap (λ p. p.0) same, ap (λ p. p.1) same)
 
   stop_by : (stop : LineStop) (fault : LineFault) (forms : List LineForm) (named : Texts) → UnlessNoMemory fault (bytes_on before [] bytes ≡ Err stop) → bytes_on before [] bytes ≡ Ok (named, forms) → fault ≡ faults.NoMemory
@@ -60,7 +60,7 @@ module _ (before : Texts) (bytes : List ℕ) (first : ℕ) (after : Texts) where
 
   -- where the lines are read, no line stops the reading
   never_stops : (stop : LineStop) (fault : ModFault) (forms : List LineForm) (named : Texts) → StopsSo (bytes_on before [] bytes) stop → fault ≡ mod_fault (first + stop.number) stop.fault → bytes_on before [] bytes ≡ Ok (named, forms) → fault ≡ mod_faults.NoMemory
-  never_stops stop fault forms named so is e = is ∙ ap (mod_fault (first + stop.number)) (stop_by stop stop.fault forms named so e)
+  never_stops stop fault forms named so is e = is ∙ ap (mod_fault (first + stop.number)) (stop_by stop _ forms named so e)
 
   pub only_read : (r : Result Module ModFault) → Ends before bytes first after r → (m : Module) (named : Texts) → ModuleText before bytes m named → GivesUnless mod_faults.NoMemory r m
   only_read r ends m named text =
@@ -68,27 +68,26 @@ module _ (before : Texts) (bytes : List ℕ) (first : ℕ) (after : Texts) where
     where
       by_end : (r : Result Module ModFault) → Ends before bytes first after r → bytes_on before [] bytes ≡ Ok (named, text.lines) → GivesUnless mod_faults.NoMemory r m
       by_end _ (read forms other e value settled) f =
-          let same = same_read forms text.lines after named e f in
+          let same = same_read forms _ after named e f in
           value ∙ (λ i. module_of (same.0 i) (same.1 i)) ∙ sym text.value
       by_end _ (missing forms number fault e lacking is) f =
-          let same = same_read forms text.lines after named e f in
-          let none : ◌≡◌ {A = Option ℕ} (Some number) None = sym lacking ∙ ap unsettled_line same.1 ∙ text.settled in
+          let none : ◌≡◌ {A = Option ℕ} (Some number) None = sym lacking ∙ ap unsettled_line (same_read forms _ after named e f).1 ∙ text.settled in
           absurd cc
-      by_end _ (stopped stop fault so is) f = never_stops stop fault text.lines named so is f
+      by_end _ (stopped stop fault so is) f = never_stops stop fault _ named so is f
       by_end _ (no_memory fault is) f = is
 
   -- ---- the cause of each refusal
 
   stop_cause : (number : ℕ) (fault : LineFault) → UnlessNoMemory fault (bytes_on before [] bytes ≡ stop_at number fault) → HasModFault before bytes first (mod_fault (first + number) fault)
   stop_cause number faults.NoMemory so = tt
-  stop_cause number fault so = (number, refl, first_fault before bytes (record { number = number; fault = fault }) so)
+  stop_cause number fault so = (number, refl, first_fault _ bytes _ so)
 
   pub cause_is : (r : Result Module ModFault) → Ends before bytes first after r → IfErr r (HasModFault before bytes first)
   cause_is _ (read forms m e value settled) = tt
   cause_is _ (missing forms number fault e lacking is) =
-      let read_so = bytes_are_read before bytes after forms e in
+      let read_so = bytes_are_read _ bytes after forms e in
       subst (HasModFault before bytes first) (sym is) (number, refl, record { lines = forms; spelled = read_so.spelled; faultless = read_so.faultless; closed = read_so.closed; missing = lacking })
-  cause_is _ (stopped stop fault so is) = subst (HasModFault before bytes first) (sym is) (stop_cause stop.number stop.fault so)
+  cause_is _ (stopped stop fault so is) = subst (HasModFault before bytes first) (sym is) (stop_cause _ _ so)
   cause_is _ (no_memory fault is) = subst (HasModFault before bytes first) (sym is) tt
 
   -- ---- each cause its refusal
@@ -103,8 +102,7 @@ module _ (before : Texts) (bytes : List ℕ) (first : ℕ) (after : Texts) where
       elim (memory_or other so) as (λ _. IsFaultOr (mod_fault (first + at) other) (mod_fault (first + number) fault)) [
         | inl none ↦ inr (ap (mod_fault (first + at)) none)
         | inr is ↦
-            let same = same_stop (record { number = at; fault = other }) (record { number = number; fault = fault }) is e in
-            inl (ap (λ (s : LineStop). mod_fault (first + s.number) s.fault) same)
+            inl (ap (λ (s : LineStop). mod_fault (first + s.number) s.fault) (same_stop _ _ is e))
       ]
     where
       memory_or : (o : LineFault) → UnlessNoMemory o (bytes_on before [] bytes ≡ stop_at at other) → (o ≡ faults.NoMemory) ⊎ (bytes_on before [] bytes ≡ stop_at at other)
@@ -131,7 +129,6 @@ module _ (before : Texts) (bytes : List ℕ) (first : ℕ) (after : Texts) where
       by_end _ (missing forms other fault e lacking is) f =
           let same = same_read forms at.lines after (names_behind before at.lines) e f in
           let number_is : ◌≡◌ {A = Option ℕ} (Some other) (Some number) = sym lacking ∙ ap unsettled_line same.1 ∙ at.missing in
-          let is_number : other ≡ number = cc in
-          inl (is ∙ ap (λ n. mod_faults.Label (first + n)) is_number)
+          inl (is ∙ ap (λ n. mod_faults.Label (first + n)) cc)
       by_end _ (stopped stop fault so is) f = inr (never_stops stop fault at.lines (names_behind before at.lines) so is f)
       by_end _ (no_memory fault is) f = inr is

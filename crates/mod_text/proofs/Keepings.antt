@@ -51,7 +51,7 @@ last_behind-none (line ∷ lines) = last_behind-some line lines
 row_more : (before : Option LineForm) (lines : List LineForm) (line : LineForm) → RowFrom before lines → may_follow (last_behind before lines) line ≡ true → RowFrom before (lines ++ line ∷ [])
 unfolding last_behind
 row_more before [] line row place = (place, tt)
-row_more before (first ∷ lines) line row place = (row.0, row_more (Some first) lines line row.1 place)
+row_more before (first ∷ lines) line row place = (row.0, row_more _ lines line row.1 place)
 
 -- ---- one line more
 
@@ -76,21 +76,19 @@ module _ (lines after : List (Bor (List ℕ))) (text : Bor (List ℕ)) (last : O
       kept_more (forms_of lines) (forms_of after) last (Some (line_form line)) (line_form line) (headers_of functions) (headers_of new_functions) (words_of labels) (words_of new_labels) kept is place (forms_pushed lines after text (line_form line) said pushed) refl
       (ap headers_of headed ∙ map-append (λ h. (h.0.now, h.1.now)) functions ((name, arity) ∷ []) ∙ ap (λ l. headers_of functions ++ headers_in (l ∷ [])) (sym form.1))
       (ap words_of cleared ∙ ap (labels_after (words_of labels)) (sym form.1))
-      (omega (arith, few, length-map {B = List ℕ × List ℕ} new_functions (λ h. (h.0.now, h.1.now)), ap length headed, length-append functions ((name, arity) ∷ [])))
+      (omega (arith, length-map {B = List ℕ × List ℕ} new_functions (λ h. (h.0.now, h.1.now)), ap length headed, length-append functions ((name, arity) ∷ [])))
 
   -- after a label
   pub kept_label : (labels new_labels : List (Bor (List ℕ))) (name : Bor (List ℕ)) → AreKept (forms_of lines) last (headers_of functions) (words_of labels) → IsKept (line_form line) → may_follow (last_line (forms_of lines)) (line_form line) ≡ true → line_form line ≡ label name.now → form_of text ≡ line_form line → after ≡ lines ++ text ∷ [] → words_of new_labels ≡ words_of labels ++ name.now ∷ [] → AreKept (forms_of after) (Some (line_form line)) (headers_of functions) (words_of new_labels)
   kept_label labels new_labels name kept is place form said pushed labelled =
-      kept_more (forms_of lines) (forms_of after) last (Some (line_form line)) (line_form line) (headers_of functions) (headers_of functions) (words_of labels) (words_of new_labels) kept is place (forms_pushed lines after text (line_form line) said pushed) refl
-      (sym (append-nil (headers_of functions)) ∙ ap (λ l. headers_of functions ++ headers_in (l ∷ [])) (sym form))
-      (labelled ∙ ap (labels_after (words_of labels)) (sym form)) kept.few
+      kept_more _ _ last _ _ _ _ _ _ kept is place (forms_pushed lines after text _ said pushed) refl
+      (sym (append-nil _) ∙ ap (λ l. headers_of functions ++ headers_in (l ∷ [])) (sym form)) (labelled ∙ ap (labels_after (words_of _)) (sym form)) kept.few
 
   -- after a line of another form
   pub kept_other : (labels : List (Bor (List ℕ))) → AreKept (forms_of lines) last (headers_of functions) (words_of labels) → IsKept (line_form line) → may_follow (last_line (forms_of lines)) (line_form line) ≡ true → (headers_in (line_form line ∷ []) ≡ []) × ((ls : Texts) → labels_after ls (line_form line) ≡ ls) → form_of text ≡ line_form line → after ≡ lines ++ text ∷ [] → AreKept (forms_of after) (Some (line_form line)) (headers_of functions) (words_of labels)
   kept_other labels kept is place form said pushed =
-      kept_more (forms_of lines) (forms_of after) last (Some (line_form line)) (line_form line) (headers_of functions) (headers_of functions) (words_of labels) (words_of labels) kept is place (forms_pushed lines after text (line_form line) said pushed) refl
-      (sym (append-nil (headers_of functions)) ∙ ap (λ hs. headers_of functions ++ hs) (sym form.0))
-      (sym (form.1 (words_of labels))) kept.few
+      kept_more _ _ last _ _ _ _ _ _ kept is place (forms_pushed lines after text _ said pushed) refl
+      (sym (append-nil _) ∙ ap (λ hs. headers_of functions ++ hs) (sym form.0)) (sym (form.1 (words_of _))) kept.few
 
 -- ---- labels
 
@@ -142,7 +140,7 @@ text_form_is text read is = ap (λ o. unwrap_or o end) (sym is)
 -- a line that was judged is the one that was read
 alone_is : (lines : List LineForm) (read : Option LineForm) (line : LineForm) → judged_alone lines read ≡ Ok line → read ≡ Some line
 alone_is lines None line is = absurd cc
-alone_is lines (Some read) line is = ap (λ l. Some l) (by_tests (may_follow (last_line lines) read) (has_high_register read) (has_wide_integer read) (has_long_term read) is)
+alone_is lines (Some read) line is = ap (λ l. Some l) (by_tests _ _ _ _ is)
   where
     by_tests : (follows high wide long : Bool) → cond {A = Result LineForm LineFault} follows (cond high (Err faults.Register) (cond wide (Err faults.Int) (cond long (Err faults.Term) (Ok read)))) (Err faults.Syntax) ≡ Ok line → read ≡ line
     by_tests true false false false e = cc
@@ -150,9 +148,7 @@ alone_is lines (Some read) line is = ap (λ l. Some l) (by_tests (may_follow (la
 
 -- a text that was judged is that of its line
 pub said_alone : (lines : List LineForm) (text : List ℕ) (line : LineForm) → judged_alone lines (line_reading text) ≡ Ok line → text_form text ≡ line
-said_alone lines text line is =
-    let s = soundly (line_split text) line (alone_is lines (line_reading text) line is) in
-    text_form_is text (Some line) (sym s.same)
+said_alone lines text line is = text_form_is text _ (sym (soundly _ line (alone_is lines _ line is)).same)
 
 -- ---- the stages of a line
 
@@ -195,7 +191,7 @@ staged_by names lines (Some line) =
 
 -- a line is judged in stages
 pub staged : (names : Texts) (lines : List LineForm) (text : List ℕ) → line_step names lines text ≡ then_stage (judged_alone lines (line_reading text)) (later_stages names lines)
-staged names lines text = staged_by names lines (line_reading text)
+staged names lines text = staged_by names lines _
 
 pub fails_first : {A B : Type 0} (r : Result A LineFault) (more : A → Result B LineFault) (fault : LineFault) → Fails r fault → Fails (then_stage r more) fault
 unfolding then_stage
@@ -209,8 +205,7 @@ fails_first {A} {B} (Err e) more fault h = same_fault A B e fault h
 module _ (names : Texts) (lines : List LineForm) (text : List ℕ) where
   -- a fault of what the line is alone
   pub line_fails_alone : (fault : LineFault) → Fails (judged_alone lines (line_reading text)) fault → Fails (line_step names lines text) fault
-  line_fails_alone fault h =
-      subst (λ (step : Step). Fails step fault) (sym (staged names lines text)) (fails_first (judged_alone lines (line_reading text)) (later_stages names lines) fault h)
+  line_fails_alone fault h = subst (λ (step : Step). Fails step fault) (sym (staged names lines text)) (fails_first _ _ fault h)
 
   -- behind a line that is within its limits
   behind_alone : (line : LineForm) → judged_alone lines (line_reading text) ≡ Ok line → line_step names lines text ≡ later_stages names lines line
@@ -222,7 +217,7 @@ module _ (names : Texts) (lines : List LineForm) (text : List ℕ) where
   unfolding later_stages
   line_fails_named line fault is h =
       subst (λ (step : Step). Fails step fault) (sym (behind_alone line is))
-      (fails_first (naming names (line_atoms line)) (λ named. then_stage (keeping names lines line) (λ ls. Ok (named, ls))) fault h)
+      (fails_first _ (λ named. then_stage (keeping names lines line) (λ ls. Ok _)) fault h)
 
 kept_on : {X : Type 0} (view : X → List LineForm) (named : Texts) (r : Result X LineFault) (step : Result (List LineForm) LineFault) → Gives view r step → Gives {A = Texts × List LineForm} (λ x. (named, view x)) r (then_stage step (λ ls. Ok (named, ls)))
 unfolding then_stage
@@ -235,4 +230,4 @@ unfolding later_stages then_stage
 line_gives view names named lines text line r alone naming_is h =
     let is : line_step names lines text ≡ then_stage (keeping names lines line) (λ ls. Ok (named, ls)) =
     behind_alone names lines text line alone ∙ ap (λ n. then_stage n (λ k. then_stage (keeping names lines line) (λ ls. Ok (k, ls)))) naming_is in
-    subst (Gives {A = Texts × List LineForm} (λ x. (named, view x)) r) (sym is) (kept_on view named r (keeping names lines line) h)
+    subst (Gives {A = Texts × List LineForm} (λ x. (named, view x)) r) (sym is) (kept_on view named r _ h)

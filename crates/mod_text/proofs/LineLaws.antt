@@ -51,7 +51,7 @@ IsKnownLine line = has_sound_terms line ≡ true → is_line_form line ≡ true
 
 instr_line_is : (word rest : List ℕ) (line : LineForm) → instr_line_reading word rest ≡ Some line → IsItem line_written IsKnownLine (word ++ 32 ∷ rest) line
 instr_line_is word rest line e =
-    let m = map_some (λ i. instr i) (instr_reading word rest) line e in
+    let m = map_some (λ i. instr i) _ line e in
     let is = instr_is word rest m.0 m.1 in
     subst (IsItem line_written IsKnownLine (word ++ 32 ∷ rest)) m.2 (record { text_is = is.text_is; fits = is.fits })
 
@@ -76,12 +76,12 @@ parts_are : (text : List ℕ) (o : Option (List ℕ × List ℕ)) (line : LineFo
 unfolding IsSplit
 parts_are text None line cut e = let is = lone_is text line e in (is.text_is, is.fits)
 parts_are text (Some parts) line cut e =
-    let is = keyed_is parts.0 parts.1 line e in
+    let is = keyed_is _ _ line e in
     ((cut_is 32 text parts cut).whole ∙ is.text_is, is.fits)
 
 -- what is cut as a line has the line's text
 split_is : (text : List ℕ) (line : LineForm) → line_split text ≡ Some line → IsSplit text line
-split_is text line e = parts_are text (cut_at 32 text) line refl e
+split_is text line e = parts_are text _ line refl e
 
 -- a line that was read is one that was cut, and its terms are terms
 pub record IsSoundly (split : Option LineForm) (line : LineForm) : Type 0 where
@@ -94,13 +94,13 @@ soundly_by found line false is e = absurd cc
 
 pub soundly : (split : Option LineForm) (line : LineForm) → sound_reading split ≡ Some line → IsSoundly split line
 soundly None line e = absurd cc
-soundly (Some found) line e = soundly_by found line (has_sound_terms found) refl e
+soundly (Some found) line e = soundly_by found line _ refl e
 
 -- what is read as a line is the line's text
 pub line_is : (text : List ℕ) (line : LineForm) → line_reading text ≡ Some line → LineText text line
 unfolding IsSplit
 line_is text line e =
-    let s = soundly (line_split text) line e in
+    let s = soundly _ line e in
     let is = split_is text line s.same in
     record { text_is = is.0; sound = is.1 s.terms }
 
@@ -108,7 +108,7 @@ line_is text line e =
 pub sound_by : (text : List ℕ) (result : Option WrittenLine) → option_map line_form result ≡ line_split text → IfSome result (λ line. has_sound_terms (line_form line) ≡ true → IsTrue (is_line_form (line_form line)))
 unfolding IsSplit
 sound_by text None e = tt
-sound_by text (Some line) e = (split_is text (line_form line) (sym e)).1
+sound_by text (Some line) e = (split_is text _ (sym e)).1
 
 -- ---- the text of each line is read as that line
 
@@ -116,7 +116,7 @@ sound_by text (Some line) e = (split_is text (line_form line) (sym e)).1
 
 -- three tests in a row
 three : (a b c : Bool) → (a && (b && c)) ≡ true → (a ≡ true) × ((b ≡ true) × (c ≡ true))
-three a b c h = let p = and_parts a (b && c) h in (p.0, and_parts b c p.1)
+three a b c h = let p = and_parts a _ h in (p.0, and_parts b c p.1)
 
 as_line : {o : Option InstrForm} {i : InstrForm} → o ≡ Some i → option_map (λ j. instr j) o ≡ Some (instr i)
 as_line e = ap (option_map (λ j. instr j)) e
@@ -124,7 +124,7 @@ as_line e = ap (option_map (λ j. instr j)) e
 -- ---- bytes: no line feed is among them
 
 lacks_word : (word rest : List ℕ) → lacks 10 word ≡ true → lacks 10 rest ≡ true → lacks 10 (spaced word rest) ≡ true
-lacks_word word rest h k = lacks-append 10 word (32 ∷ rest) h (lacks-cons 10 32 rest refl k)
+lacks_word word rest h k = lacks-append 10 word _ h (lacks-cons 10 32 rest refl k)
 
 -- what a reader writes of what fits has none
 abbrev Lacks : {A : Type 0} → Reader A → Type 0
@@ -169,7 +169,7 @@ record IsSaid (i : InstrForm) : Type 0 where
   apart : lacks 10 (instr_written i) ≡ true
 
 said : {A : Type 0} (r : Reader A) (make : A → InstrForm) (word : List ℕ) (x : A) → Lacks r → lacks 10 word ≡ true → instr_written (make x) ≡ word ++ 32 ∷ r.write x → line_split (instr_written (make x)) ≡ option_map (λ j. instr j) (r.read (r.write x) >>= λ y. Some (make y)) → r.Fits x → IsSaid (make x)
-said r make word x apart lacking shape split fits = record { again = split ∙ as_line (made_again r make x fits); apart = ap (lacks 10) shape ∙ lacks_word word (r.write x) lacking (apart x fits) }
+said r make word x apart lacking shape split fits = record { again = split ∙ as_line (made_again r make x fits); apart = ap (lacks 10) shape ∙ lacks_word word _ lacking (apart x fits) }
 
 instr_said : (i : InstrForm) → is_instr_form i ≡ true → IsSaid i
 instr_said (move from to) h = said one_operand (λ p. move p.0 p.1) (codes "move") (from, to) one_lacks refl refl refl (and_parts (is_operand_form from) (is_number_text to) h)

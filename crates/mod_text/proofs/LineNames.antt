@@ -6,8 +6,8 @@ use Rattle.mod_text.proofs.Common.{All-cons, All-head, All-tail, All-weaker, sum
 use Rattle.mod_text.proofs.Texts.{is_atom_text, names_with, number_of, names_with_all, is_number_text}
 use Rattle.mod_text.proofs.Types.{LineFault}
 use Rattle.mod_text.specs.ModuleLine.{OperandForm, constant, InstrForm, move, add, sub, eq, less, call, call_ext, ret, pget}
-use Rattle.mod_text.specs.ModuleLine.{pget_or, elem, print, LineForm, title, header, instr, is_operand_form, is_function_form}
-use Rattle.mod_text.specs.ModuleLine.{is_instr_form, is_line_form, is_arity_text, is_version_text, label, end}
+use Rattle.mod_text.specs.ModuleLine.{pget_or, elem, print, LineForm, title, header, instr, is_operand_form}
+use Rattle.mod_text.specs.ModuleLine.{is_instr_form, is_line_form, is_arity_text, label, end}
 use Rattle.mod_text.specs.declared.fault.LineFault.TheVariants as faults
 use Rattle.mod_text.proofs.Forms.{operand_atoms, instr_atoms, line_atoms, is_in_function, ends_too_long, naming}
 use Rattle.mod_text.proofs.Forms.{RowFrom, IsKept, operand_form_words, instr_form_words, line_words}
@@ -31,10 +31,10 @@ abbrev pub are_atoms : Texts → Bool
 are_atoms texts = list_all is_atom_text texts
 
 pub both_atoms : (xs ys : Texts) → are_atoms xs ≡ true → are_atoms ys ≡ true → are_atoms (xs ++ ys) ≡ true
-both_atoms xs ys h k = list_all-append is_atom_text xs ys ∙ and_from (are_atoms xs) (are_atoms ys) h k
+both_atoms xs ys h k = list_all-append _ xs ys ∙ and_from _ _ h k
 
 one_atom : (text : List ℕ) → is_atom_text text ≡ true → are_atoms (text ∷ []) ≡ true
-one_atom text h = and_from (is_atom_text text) true h refl
+one_atom text h = and_from _ true h refl
 
 mutual
   -- the atoms of a form are texts of atoms
@@ -62,22 +62,20 @@ operands_are (o ∷ p ∷ os) h =
     both_atoms (operand_atoms o) (operands_atoms (p ∷ os)) (operand_atoms_are o both.0) (operands_are (p ∷ os) both.1)
 
 instr_atoms_are : (i : InstrForm) → is_instr_form i ≡ true → are_atoms (instr_atoms i) ≡ true
-instr_atoms_are (call name arity at) h =
-    one_atom name (and_parts (is_atom_text name) (is_arity_text arity) (and_parts (is_function_form name arity) (is_number_text at) h).0).0
+instr_atoms_are (call name arity at) h = one_atom name (and_parts _ _ (and_parts _ _ h).0).0
 instr_atoms_are (call_ext name function arity at) h =
-    let first = and_parts (is_atom_text name) (is_function_form function arity && is_number_text at) h in
-    let second = and_parts (is_function_form function arity) (is_number_text at) first.1 in
-    let third = and_parts (is_atom_text function) (is_arity_text arity) second.0 in
-    both_atoms (name ∷ []) (function ∷ []) (one_atom name first.0) (one_atom function third.0)
-instr_atoms_are (pget key to) h = one_atom key (and_parts (is_atom_text key) (is_number_text to) h).0
+    let first = and_parts _ _ h in
+    let second = and_parts _ (is_number_text at) first.1 in
+    both_atoms (name ∷ []) (function ∷ []) (one_atom name first.0) (one_atom function (and_parts _ (is_arity_text arity) second.0).0)
+instr_atoms_are (pget key to) h = one_atom key (and_parts _ _ h).0
 instr_atoms_are (pget_or key other to) h =
-    both_atoms (key ∷ []) (operand_atoms other) (one_atom key (and_parts (is_atom_text key) (is_operand_form other && is_number_text to) h).0) (operand_atoms_are other (operands_form (pget_or key other to) h))
+    both_atoms (key ∷ []) (operand_atoms other) (one_atom key (and_parts _ _ h).0) (operand_atoms_are other (operands_form (pget_or key other to) h))
 instr_atoms_are i h = operands_are (operands_of i) (operands_form i h)
 
 -- the atoms of a line are texts of atoms
 pub line_atoms_are : (line : LineForm) → is_line_form line ≡ true → are_atoms (line_atoms line) ≡ true
-line_atoms_are (title name version) h = one_atom name (and_parts (is_atom_text name) (is_version_text version) h).0
-line_atoms_are (header exported name arity) h = one_atom name (and_parts (is_atom_text name) (is_arity_text arity) h).0
+line_atoms_are (title name version) h = one_atom name (and_parts _ _ h).0
+line_atoms_are (header exported name arity) h = one_atom name (and_parts _ _ h).0
 line_atoms_are (instr i) h = instr_atoms_are i h
 line_atoms_are line h = refl
 
@@ -121,7 +119,7 @@ module _ (names xs ys : Texts) (fault : LineFault) where
 
   -- where the first part is refused, so is the whole
   pub first_fails : Fails (naming names xs) fault → Fails (naming names (xs ++ ys)) fault
-  first_fails h = first_fails_by (nat_lt 4096 (length (names_with_all names xs))) refl h
+  first_fails h = first_fails_by _ refl h
 
 named_is_by : (names after : Texts) (t : Bool) → cond {A = Result Texts LineFault} t (Err faults.Names) (Ok names) ≡ Ok after → names ≡ after
 named_is_by names after true h = absurd cc
@@ -129,7 +127,7 @@ named_is_by names after false h = cc
 
 -- the names after a part that was named
 pub named_is : (names texts after : Texts) → naming names texts ≡ Ok after → names_with_all names texts ≡ after
-named_is names texts after h = named_is_by (names_with_all names texts) after (nat_lt 4096 (length (names_with_all names texts))) h
+named_is names texts after h = named_is_by _ after _ h
 
 -- where the first part was named, the whole is as the second
 pub second_goes_on : (names xs ys between : Texts) → naming names xs ≡ Ok between → naming names (xs ++ ys) ≡ naming between ys
@@ -139,7 +137,7 @@ second_goes_on names xs ys between h =
 
 -- what was answered of the second part is the answer for the whole
 pub goes_on : {X : Type 0} (view : X → Texts) (r : Result X LineFault) (names between xs ys : Texts) → naming names xs ≡ Ok between → Gives view r (naming between ys) → Gives view r (naming names (xs ++ ys))
-goes_on view r names between xs ys first h = subst (Gives view r) (sym (second_goes_on names xs ys between first)) h
+goes_on view r names between xs ys first h = subst (Gives view r) (sym (second_goes_on names xs ys _ first)) h
 
 -- ---- one atom
 
@@ -148,26 +146,25 @@ goes_on view r names between xs ys first h = subst (Gives view r) (sym (second_g
 -- ---- one instruction
 
 one_words : (names : Texts) (o : OperandForm) (rest : Bool) (own : ℕ) → (is_operand_form o && rest) ≡ true → own + constants_len (operand_constants (operand_in names o)) ≡ own + operand_form_words o
-one_words names o rest own h = ap (λ n. own + n) (operand_constant_words names o (and_parts (is_operand_form o) rest h).0)
+one_words names o rest own h = ap (λ n. own + n) (operand_constant_words names o (and_parts _ rest h).0)
 
 two_words : (names : Texts) (a b : OperandForm) (rest : Bool) → (is_operand_form a && (is_operand_form b && rest)) ≡ true → 4 + constants_len (operand_constants (operand_in names a) ++ operand_constants (operand_in names b)) ≡ 4 + (operand_form_words a + operand_form_words b)
 two_words names a b rest h =
     let first = and_parts (is_operand_form a) (is_operand_form b && rest) h in
-    let second = and_parts (is_operand_form b) rest first.1 in
     let whole = constants_len-append (operand_constants (operand_in names a)) (operand_constants (operand_in names b)) in
-    omega (arith, whole, operand_constant_words names a first.0, operand_constant_words names b second.0)
+    omega (arith, operand_constant_words names a first.0, operand_constant_words names b (and_parts (is_operand_form b) rest first.1).0)
 
 module _ (names : Texts) (headers : List HeaderForm) (body : List LineForm) where
   -- an instruction's own words, and those of its constants
   instr_len_in : (i : InstrForm) → is_instr_form i ≡ true → instr_len (instr_in names headers body i) + constants_len (instr_constants (instr_in names headers body i)) ≡ instr_form_words i
-  instr_len_in (move from to) h = one_words names from (is_number_text to) 3 h
-  instr_len_in (add a b to) h = two_words names a b (is_number_text to) h
-  instr_len_in (sub a b to) h = two_words names a b (is_number_text to) h
-  instr_len_in (eq a b target) h = two_words names a b (is_atom_text target) h
-  instr_len_in (less a b target) h = two_words names a b (is_atom_text target) h
+  instr_len_in (move from to) h = one_words names from _ 3 h
+  instr_len_in (add a b to) h = two_words names a b _ h
+  instr_len_in (sub a b to) h = two_words names a b _ h
+  instr_len_in (eq a b target) h = two_words names a b _ h
+  instr_len_in (less a b target) h = two_words names a b _ h
   instr_len_in (ret value) h = ap (λ n. 2 + n) (operand_constant_words names value h)
-  instr_len_in (pget_or key other to) h = one_words names other (is_number_text to) 4 (and_parts (is_atom_text key) (is_operand_form other && is_number_text to) h).1
-  instr_len_in (elem index from to) h = two_words names index from (is_number_text to) h
+  instr_len_in (pget_or key other to) h = one_words names other _ 4 (and_parts _ _ h).1
+  instr_len_in (elem index from to) h = two_words names index from _ h
   instr_len_in (print value) h = ap (λ n. 2 + n) (operand_constant_words names value h)
   instr_len_in i h = refl
 
@@ -179,12 +176,12 @@ IsSoundInstr i = is_instr_form i ≡ true
 
 pub instrs_sound : (lines : List LineForm) → All IsSound lines → All IsSoundInstr (instrs_in lines)
 instrs_sound [] h = All-nil IsSoundInstr
-instrs_sound (instr i ∷ lines) h = All-cons IsSoundInstr i (instrs_in lines) (All-head IsSound (instr i) lines h) (instrs_sound lines (All-tail IsSound (instr i) lines h))
+instrs_sound (instr i ∷ lines) h = All-cons IsSoundInstr i _ (All-head IsSound _ lines h) (instrs_sound lines (All-tail IsSound _ lines h))
 instrs_sound (line ∷ lines) h = instrs_sound lines (All-tail IsSound line lines h)
 
 body_sound : (lines : List LineForm) → All IsSound lines → All IsSound (body_of lines)
-body_sound (label name ∷ lines) h = All-cons IsSound (label name) (body_of lines) (All-head IsSound (label name) lines h) (body_sound lines (All-tail IsSound (label name) lines h))
-body_sound (instr i ∷ lines) h = All-cons IsSound (instr i) (body_of lines) (All-head IsSound (instr i) lines h) (body_sound lines (All-tail IsSound (instr i) lines h))
+body_sound (label name ∷ lines) h = All-cons IsSound _ _ (All-head IsSound _ lines h) (body_sound lines (All-tail IsSound _ lines h))
+body_sound (instr i ∷ lines) h = All-cons IsSound _ _ (All-head IsSound _ lines h) (body_sound lines (All-tail IsSound _ lines h))
 body_sound lines h = All-nil IsSound
 
 -- a function each of whose lines is of its form
@@ -194,8 +191,8 @@ IsSoundFunction f = All IsSound f.body
 pub functions_sound : (lines : List LineForm) → All IsSound lines → All IsSoundFunction (functions_in lines)
 functions_sound [] h = All-nil IsSoundFunction
 functions_sound (header exported name arity ∷ lines) h =
-    let rest = All-tail IsSound (header exported name arity) lines h in
-    All-cons IsSoundFunction (record { exported = exported; name = name; arity = arity; body = body_of lines }) (functions_in lines) (body_sound lines rest) (functions_sound lines rest)
+    let rest = All-tail IsSound _ lines h in
+    All-cons IsSoundFunction _ _ (body_sound lines rest) (functions_sound lines rest)
 functions_sound (line ∷ lines) h = functions_sound lines (All-tail IsSound line lines h)
 
 -- the words of a function's own lines
@@ -206,10 +203,9 @@ module _ (names : Texts) (headers : List HeaderForm) where
   code_len_in : (body : List LineForm) (is : List InstrForm) → All IsSoundInstr is → code_len (map (instr_in names headers body) is) + constants_len (code_constants (map (instr_in names headers body) is)) ≡ sum_by instr_form_words is
   code_len_in body [] h = refl
   code_len_in body (i ∷ is) h =
-      let rest = map (instr_in names headers body) is in
-      let more = constants_len-append (instr_constants (instr_in names headers body i)) (code_constants rest) in
+      let more = constants_len-append (instr_constants (instr_in names headers body i)) (code_constants (map (instr_in names headers body) is)) in
       let first = instr_len_in names headers body i (All-head IsSoundInstr i is h) in
-      omega (arith, more, first, code_len_in body is (All-tail IsSoundInstr i is h), sum_by-cons instr_form_words i is)
+      omega (arith, code_len_in body is (All-tail IsSoundInstr i is h), sum_by-cons instr_form_words i is)
 
   functions_len : (fs : List FunctionForm) → All IsSoundFunction fs → 4 * length (map (function_in names headers) fs) + (sum_by function_len (map (function_in names headers) fs) + constants_len (constants_of (map (function_in names headers) fs))) ≡ sum_by own_words fs
   unfolding own_words
@@ -217,10 +213,9 @@ module _ (names : Texts) (headers : List HeaderForm) where
   functions_len (f ∷ fs) h =
       let rest = map (function_in names headers) fs in
       let first = sum_by-cons function_len (function_in names headers f) rest in
-      let own = sum_by-cons own_words f fs in
       let code = code_len_in f.body (instrs_in f.body) (instrs_sound f.body (All-head IsSoundFunction f fs h)) in
       let more = constants_len-append (code_constants (function_in names headers f).code) (constants_of rest) in
-      omega (arith, functions_len fs (All-tail IsSoundFunction f fs h), first, own, code, more)
+      omega (arith, functions_len fs (All-tail IsSoundFunction f fs h), sum_by-cons own_words f fs)
 
 -- the words of the lines at the front that are a function's
 front_words : Bool → List LineForm → ℕ
@@ -267,7 +262,7 @@ row_words lines row = omega (arith, words_of_row None lines row)
 -- the image of the module that lines in a row say
 pub image_words : (names : Texts) (lines : List LineForm) → RowFrom None lines → All IsSound lines → length (module_image (module_of names lines)) ≡ lines_words lines
 image_words names lines row sound =
-    image_len (module_of names lines) ∙ ap (λ n. 4 + n) (functions_len names (headers_in lines) (functions_in lines) (functions_sound lines sound) ∙ row_words lines row)
+    image_len (module_of names lines) ∙ ap (λ n. 4 + n) (functions_len names _ _ (functions_sound lines sound) ∙ row_words lines row)
 
 functions_in-end : (lines : List LineForm) → functions_in (lines ++ end ∷ []) ≡ functions_in lines
 functions_in-end [] = refl
@@ -286,11 +281,11 @@ module _ (names : Texts) (lines : List LineForm) (row : RowFrom None lines) (sou
   image_words-end =
       image_len (module_of names (lines ++ end ∷ []))
       ∙ ap (λ fs. 4 + (4 * length (map (function_in names (headers_in (lines ++ end ∷ []))) fs) + (sum_by function_len (map (function_in names (headers_in (lines ++ end ∷ []))) fs) + constants_len (constants_of (map (function_in names (headers_in (lines ++ end ∷ []))) fs))))) (functions_in-end lines)
-      ∙ ap (λ n. 4 + n) (functions_len names (headers_in (lines ++ end ∷ [])) (functions_in lines) (functions_sound lines sound) ∙ row_words lines row)
+      ∙ ap (λ n. 4 + n) (functions_len names (headers_in (lines ++ end ∷ [])) _ (functions_sound lines sound) ∙ row_words lines row)
 
   -- the test at the end
   pub too_long_is : ends_too_long names lines end ≡ not (nat_le (lines_words lines) 1024)
-  too_long_is = ap (nat_lt 1024) image_words-end ∙ tests (lines_words lines)
+  too_long_is = ap (nat_lt 1024) image_words-end ∙ tests _
     where
       tests : (n : ℕ) → nat_lt 1024 n ≡ not (nat_le n 1024)
       tests n = grind (arith, nat_tests)

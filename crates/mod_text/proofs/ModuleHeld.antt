@@ -8,7 +8,7 @@ use Rattle.mod_text.proofs.Types.{Module, ModFault}
 use Rattle.mod_core.specs.HeldNames.{IsOperandAmong, HasAtomsAmong, IsFunctionHeld, IsModuleHeld}
 use Rattle.mod_text.proofs.Forms.{Ends, read, OperandForm, constant, InstrForm, move, add, sub, eq, less}
 use Rattle.mod_text.proofs.Forms.{call_ext, ret, pget, pget_or, elem, print, LineForm, is_operand_form}
-use Rattle.mod_text.proofs.Forms.{is_instr_form, FunctionForm, HeaderForm, functions_in, headers_in, instrs_in}
+use Rattle.mod_text.proofs.Forms.{is_instr_form, FunctionForm, HeaderForm, instrs_in}
 use Rattle.mod_text.proofs.Forms.{operand_in, instr_in, function_in, module_of, names_after, FollowOn}
 use Rattle.mod_text.proofs.CanonicalParts.{IsSound, constant_held}
 use Rattle.mod_text.proofs.LineNames.{IsSoundInstr, IsSoundFunction, instrs_sound, functions_sound}
@@ -25,10 +25,10 @@ module _ (names : Texts) (some : 0 < length names) where
 
   -- each number is that of a name
   number_held : (text : List ℕ) → number_in names text < length names
-  number_held text = number_by text (number_of names text) refl
+  number_held text = number_by text _ refl
 
   operand_held : (o : OperandForm) → is_operand_form o ≡ true → IsOperandAmong (length names) (operand_in names o)
-  operand_held (constant form) h = constant_held names form h (length names) number_held
+  operand_held (constant form) h = constant_held names form h _ number_held
   operand_held o h = tt
 
   two_held : (a b : OperandForm) (rest : Bool) → (is_operand_form a && (is_operand_form b && rest)) ≡ true → IsOperandAmong (length names) (operand_in names a) × IsOperandAmong (length names) (operand_in names b)
@@ -38,26 +38,26 @@ module _ (names : Texts) (some : 0 < length names) where
 
   instr_held : (headers : List HeaderForm) (body : List LineForm) (i : InstrForm) → is_instr_form i ≡ true → HasAtomsAmong (length names) (instr_in names headers body i)
   instr_held headers body (move from to) h = operand_held from (and_parts (is_operand_form from) (is_number_text to) h).0
-  instr_held headers body (add a b to) h = two_held a b (is_number_text to) h
-  instr_held headers body (sub a b to) h = two_held a b (is_number_text to) h
-  instr_held headers body (eq a b target) h = two_held a b (is_atom_text target) h
-  instr_held headers body (less a b target) h = two_held a b (is_atom_text target) h
-  instr_held headers body (call_ext name function arity at) h = (number_held name, number_held function)
+  instr_held headers body (add a b to) h = two_held a b _ h
+  instr_held headers body (sub a b to) h = two_held a b _ h
+  instr_held headers body (eq a b target) h = two_held a b _ h
+  instr_held headers body (less a b target) h = two_held a b _ h
+  instr_held headers body (call_ext name function arity at) h = (number_held name, number_held _)
   instr_held headers body (ret value) h = operand_held value h
   instr_held headers body (pget key to) h = number_held key
   instr_held headers body (pget_or key other to) h = (number_held key, operand_held other (and_parts (is_operand_form other) (is_number_text to) (and_parts (is_atom_text key) (is_operand_form other && is_number_text to) h).1).0)
-  instr_held headers body (elem index from to) h = two_held index from (is_number_text to) h
+  instr_held headers body (elem index from to) h = two_held index from _ h
   instr_held headers body (print value) h = operand_held value h
   instr_held headers body i h = tt
 
   code_held : (headers : List HeaderForm) (body : List LineForm) (is : List InstrForm) → All IsSoundInstr is → All (HasAtomsAmong (length names)) (map (instr_in names headers body) is)
-  code_held headers body [] h = All-nil (HasAtomsAmong (length names))
+  code_held headers body [] h = All-nil _
   code_held headers body (i ∷ is) h =
       All-cons (HasAtomsAmong (length names)) (instr_in names headers body i) (map (instr_in names headers body) is)
       (instr_held headers body i (All-head IsSoundInstr i is h)) (code_held headers body is (All-tail IsSoundInstr i is h))
 
   functions_held : (headers : List HeaderForm) (fs : List FunctionForm) → All IsSoundFunction fs → All (IsFunctionHeld (length names)) (map (function_in names headers) fs)
-  functions_held headers [] h = All-nil (IsFunctionHeld (length names))
+  functions_held headers [] h = All-nil _
   functions_held headers (f ∷ fs) h =
       All-cons (IsFunctionHeld (length names)) (function_in names headers f) (map (function_in names headers) fs)
       (record { name = number_held f.name; code = code_held headers f.body (instrs_in f.body) (instrs_sound f.body (All-head IsSoundFunction f fs h)) })
@@ -65,7 +65,7 @@ module _ (names : Texts) (some : 0 < length names) where
 
   -- the atoms of the module that lines say
   pub module_held : (lines : List LineForm) → All IsSound lines → IsModuleHeld names (module_of names lines)
-  module_held lines sound = record { name = number_held _; functions = functions_held (headers_in lines) (functions_in lines) (functions_sound lines sound) }
+  module_held lines sound = record { name = number_held _; functions = functions_held _ _ (functions_sound lines sound) }
 
 -- lines that follow on are of their forms
 pub sound_lines : (names : Texts) (before lines : List LineForm) → FollowOn names before lines → All IsSound lines

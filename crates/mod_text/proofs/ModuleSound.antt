@@ -50,7 +50,7 @@ module _ (names : Texts) (before : List LineForm) (line : LineForm) where
   passes_by a b l c d e f ha hb hl hc hd he hf none = absurd cc
 
   pub passes : fault_of_line names before line ≡ None → PassesAll names before line
-  passes none = passes_by (has_high_register line) (has_wide_integer line) (has_long_term line) (overfills_names names line) (is_seventeenth before line) (ends_too_long names before line) (is_repeated before line) refl refl refl refl refl refl refl none
+  passes none = passes_by _ _ _ _ _ _ _ refl refl refl refl refl refl refl none
 
 -- ---- names
 
@@ -58,18 +58,16 @@ module _ (names : Texts) (before : List LineForm) (line : LineForm) where
 pub names_room : (names : Texts) (before lines : List LineForm) → length names ≤ 4096 → FollowOn names before lines → length (names_behind names lines) ≤ 4096
 names_room names before [] room follow = room
 names_room names before (line ∷ lines) room follow =
-    let tests = passes names before line follow.0.within in
-    let over : nat_lt 4096 (length (names_after names line)) ≡ false = tests.room in
-    let more : length (names_after names line) ≤ 4096 = grind (arith, nat_tests) in
-    names_room (names_after names line) (before ++ line ∷ []) lines more follow.1
+    let over : nat_lt 4096 (length (names_after names line)) ≡ false = (passes names before line follow.0.within).room in
+    names_room (names_after names line) (before ++ line ∷ []) lines (grind (arith, nat_tests)) follow.1
 
 number_by : (names : Texts) (text : List ℕ) (o : Option ℕ) → number_of names text ≡ o → length names ≤ 4096 → unwrap_or o 0 < 4096
 number_by names text None is room = omega arith
-number_by names text (Some n) is room = let within = slice_get_within names n text (slice_get-number_of names text n is) in omega (arith, within, room)
+number_by names text (Some n) is room = let within = slice_get_within names n text (slice_get-number_of names text n is) in omega arith
 
 -- each atom is one of 4,096
 pub atom_small : (names : Texts) (text : List ℕ) → length names ≤ 4096 → number_in names text < 4096
-atom_small names text room = number_by names text (number_of names text) refl room
+atom_small names text room = number_by names text _ refl room
 
 -- ---- operands and instructions
 
@@ -83,7 +81,7 @@ operand_is names (constant form) room sound low narrow short = constant_is names
 -- a call within the registers
 call_place : (arity at : List ℕ) → is_high_call arity at ≡ false → IsCallPlace (number_value at) (number_value arity)
 call_place arity at h =
-    let parts = or_parts (is_high at) (not (nat_le (number_value at + number_value arity) 16)) h in
+    let parts = or_parts _ _ h in
     let fits : not (nat_le (number_value at + number_value arity) 16) ≡ false = parts.1 in
     record { back = low_register at parts.0; arguments = grind (arith, nat_tests) }
 
@@ -94,33 +92,32 @@ pub record FoundAt {X : Type 0} (p : X → Bool) (xs : List X) (k : ℕ) : Type 
   pub passed : p value ≡ true
 
 found_by : {X : Type 0} (p : X → Bool) (x : X) (xs : List X) (k : ℕ) (t : Bool) (o : Option ℕ) → p x ≡ t → ((j : ℕ) → o ≡ Some j → FoundAt p xs j) → cond t (Some 0) (option_map (λ i. i + 1) o) ≡ Some k → FoundAt p (x ∷ xs) k
-found_by p x xs k true o is more e = let first : 0 ≡ k = cc in subst (FoundAt p (x ∷ xs)) first (record { value = x; at = refl; passed = is })
+found_by p x xs k true o is more e = let first : 0 ≡ k = cc in subst (FoundAt p _) first (record { value = x; at = refl; passed = is })
 found_by p x xs k false (Some j) is more e =
     let found = more j refl in
-    let next : j + 1 ≡ k = cc in
-    subst (FoundAt p (x ∷ xs)) (sym (add-one j) ∙ next) (record { value = found.value; at = found.at; passed = found.passed })
+    subst (FoundAt p _) (sym (add-one j) ∙ cc) (record { value = found.value; at = found.at; passed = found.passed })
 found_by p x xs k false None is more e = absurd cc
 
 pub position-found : {X : Type 0} (p : X → Bool) (xs : List X) (k : ℕ) → position p xs ≡ Some k → FoundAt p xs k
 position-found p [] k e = absurd cc
-position-found p (x ∷ xs) k e = found_by p x xs k (p x) (position p xs) refl (position-found p xs) (sym (position-cons p x xs) ∙ e)
+position-found p (x ∷ xs) k e = found_by p x xs k _ _ refl (position-found p xs) (sym (position-cons p x xs) ∙ e)
 
 -- ---- labels
 
 label_by : (t : Bool) (o : Option ℕ) (n bound : ℕ) → (o ≡ Some n → n ≤ bound) → cond t (Some 0) o ≡ Some n → n ≤ bound
-label_by true o n bound more e = let first : 0 ≡ n = cc in omega (arith, first)
+label_by true o n bound more e = let first : 0 ≡ n = cc in omega arith
 label_by false o n bound more e = more e
 
 suc_by : (o : Option ℕ) (n bound : ℕ) → ((k : ℕ) → o ≡ Some k → k ≤ bound) → option_map suc o ≡ Some n → n ≤ suc bound
-suc_by (Some k) n bound more e = let next : suc k ≡ n = cc in omega (arith, more k refl, next)
+suc_by (Some k) n bound more e = let next : suc k ≡ n = cc in omega (arith, more k refl)
 suc_by None n bound more e = absurd cc
 
 module _ (wanted : List ℕ) where
   -- a label's instruction is one of its function's, or the place behind them
   pub label_within : (body : List LineForm) (n : ℕ) → label_number wanted body ≡ Some n → n ≤ length (instrs_in body)
   label_within [] n e = absurd cc
-  label_within (label name ∷ lines) n e = label_by (bytes_eq name wanted) (label_number wanted lines) n (length (instrs_in lines)) (label_within lines n) e
-  label_within (instr i ∷ lines) n e = suc_by (label_number wanted lines) n (length (instrs_in lines)) (label_within lines) e
+  label_within (label name ∷ lines) n e = label_by _ _ n _ (label_within lines n) e
+  label_within (instr i ∷ lines) n e = suc_by _ n _ (label_within lines) e
   label_within (line ∷ lines) n e = label_within lines n e
 
   target_by : (body : List LineForm) (o : Option ℕ) → label_number wanted body ≡ o → unwrap_or o 0 ≤ length (instrs_in body)
@@ -128,7 +125,7 @@ module _ (wanted : List ℕ) where
   target_by body (Some n) is = label_within body n is
 
   target_within : (body : List LineForm) → target_in body wanted ≤ length (instrs_in body)
-  target_within body = target_by body (label_number wanted body) refl
+  target_within body = target_by body _ refl
 
 -- ---- functions
 
@@ -147,14 +144,14 @@ both_none None None h = (refl, refl)
 both_none a b h = absurd cc
 
 pub forms_are : (headers : List HeaderForm) (lines : List LineForm) → All IsKept lines → first_unsettled headers lines ≡ None → All (IsForm headers) (functions_in lines)
-forms_are headers [] kept none = All-nil (IsForm headers)
+forms_are headers [] kept none = All-nil _
 forms_are headers (header exported name arity ∷ lines) kept none =
     let settled = both_none (unsettled_in headers (body_of lines)) (first_unsettled headers lines) none in
     let rest = All-tail IsKept (header exported name arity) lines kept in
     All-cons (IsForm headers) (record { exported = exported; name = name; arity = arity; body = body_of lines }) (functions_in lines)
     (record { sound = (All-head IsKept (header exported name arity) lines kept).sound; kept = kept_body lines rest; settled = settled.0 })
     (forms_are headers lines rest settled.1)
-forms_are headers (line ∷ lines) kept none = forms_are headers lines (All-tail IsKept line lines kept) (both_none None (first_unsettled headers lines) none).1
+forms_are headers (line ∷ lines) kept none = forms_are _ lines (All-tail IsKept line lines kept) (both_none None _ none).1
 
 -- each line was within its own limits
 pub kept_lines : (names : Texts) (before lines : List LineForm) → FollowOn names before lines → All IsKept lines
@@ -175,49 +172,43 @@ module _ (names : Texts) (forms : List FunctionForm) (room : length names ≤ 40
 
   call_found : (name arity at : List ℕ) (k : ℕ) → IsCallPlace (number_value at) (number_value arity) → function_number name arity heads ≡ Some k → IsSomeAnd (slice_get made k) (λ f. IsCallPlace (number_value at) f.arity)
   call_found name arity at k place e =
-      let found = position-found (is_header name arity) heads k e in
-      by_form (slice_get forms k) refl found (sym (slice_get-map head_of forms k) ∙ found.at)
+      let found = position-found _ heads k e in
+      by_form _ refl found (sym (slice_get-map head_of forms k) ∙ found.at)
     where
       by_form : (o : Option FunctionForm) → slice_get forms k ≡ o → (found : FoundAt (is_header name arity) heads k) → option_map head_of (slice_get forms k) ≡ Some found.value → IsSomeAnd (slice_get made k) (λ f. IsCallPlace (number_value at) f.arity)
       by_form None is found same = absurd (let none : option_map head_of None ≡ Some found.value = ap (option_map head_of) (sym is) ∙ same in cc)
       by_form (Some f) is found same =
           let head : ◌≡◌ {A = Option HeaderForm} (Some (head_of f)) (Some found.value) = ap (option_map head_of) (sym is) ∙ same in
-          let head_is : head_of f ≡ found.value = some_is (head_of f) found.value head in
-          let arity_is : f.arity ≡ arity = ap (λ h. h.1) head_is ∙ bytes_are found.value.1 arity (and_parts (bytes_eq found.value.0 name) (bytes_eq found.value.1 arity) found.passed).1 in
-          let at_k : slice_get made k ≡ Some (function_in names heads f) = slice_get-map (function_in names heads) forms k ∙ ap (option_map (function_in names heads)) is in
+          let arity_is : f.arity ≡ arity = ap (λ h. h.1) (some_is _ _ head) ∙ bytes_are _ arity (and_parts _ _ found.passed).1 in
+          let at_k : slice_get made k ≡ Some (function_in names heads f) = slice_get-map _ forms k ∙ ap (option_map (function_in names heads)) is in
           subst (λ o. IsSomeAnd o (λ g. IsCallPlace (number_value at) g.arity)) (sym at_k) (subst (λ a. IsCallPlace (number_value at) (number_value a)) (sym arity_is) place)
 
   call_by : (name arity at : List ℕ) (o : Option ℕ) → IsCallPlace (number_value at) (number_value arity) → function_number name arity heads ≡ o → is_some o ≡ true → IsSomeAnd (slice_get made (unwrap_or o 0)) (λ f. IsCallPlace (number_value at) f.arity)
   call_by name arity at None place is some = absurd cc
   call_by name arity at (Some k) place is some = call_found name arity at k place is
 
-  two_low : (a b : OperandForm) (c : Bool) → (has_high_operand a || (has_high_operand b || c)) ≡ false → (has_high_operand a ≡ false) × (has_high_operand b ≡ false) × (c ≡ false)
-  two_low a b c h =
-      let first = or_parts (has_high_operand a) (has_high_operand b || c) h in
-      let second = or_parts (has_high_operand b) c first.1 in
-      (first.0, second.0, second.1)
-
   -- two operands of an instruction that was kept
   two_are : (a b : OperandForm) (rest : Bool) → (is_operand_form a && (is_operand_form b && rest)) ≡ true → has_high_operand a ≡ false → has_high_operand b ≡ false → (is_wide_operand a || is_wide_operand b) ≡ false → (is_long_operand a || is_long_operand b) ≡ false → IsOperand (operand_in names a) × IsOperand (operand_in names b)
   two_are a b rest sound low_a low_b wide long =
-      let first = and_parts (is_operand_form a) (is_operand_form b && rest) sound in
-      let second = and_parts (is_operand_form b) rest first.1 in
-      let narrow = or_parts (is_wide_operand a) (is_wide_operand b) wide in
-      let short = or_parts (is_long_operand a) (is_long_operand b) long in
-      (operand_is names a room first.0 low_a narrow.0 short.0, operand_is names b room second.0 low_b narrow.1 short.1)
+      let first = and_parts _ _ sound in
+      let narrow = or_parts _ _ wide in
+      let short = or_parts _ _ long in
+      (operand_is names a room first.0 low_a narrow.0 short.0, operand_is names b room (and_parts _ rest first.1).0 low_b narrow.1 short.1)
+
+  -- two operands and a register of an instruction that was kept
+  sum_is : (a b : OperandForm) (to : List ℕ) → (is_operand_form a && (is_operand_form b && is_number_text to)) ≡ true → (has_high_operand a || (has_high_operand b || is_high to)) ≡ false → (is_wide_operand a || is_wide_operand b) ≡ false → (is_long_operand a || is_long_operand b) ≡ false → IsOperand (operand_in names a) × IsOperand (operand_in names b) × (number_value to < 16)
+  sum_is a b to sound low wide long =
+      let first = or_parts _ _ low in
+      let second = or_parts _ (is_high to) first.1 in
+      let both = two_are a b (is_number_text to) sound first.0 second.0 wide long in
+      (both.0, both.1, low_register to second.1)
 
   instr_is : (body : List LineForm) (i : InstrForm) → IsKeptInstr i → is_settled heads body i ≡ true → IsInstr made (length (instrs_in body)) (instr_in names heads body i)
   instr_is body (move from to) kept settled =
-      let low = or_parts (has_high_operand from) (is_high to) kept.low in
-      (operand_is names from room (and_parts (is_operand_form from) (is_number_text to) kept.sound).0 low.0 kept.narrow kept.short, low_register to low.1)
-  instr_is body (add a b to) kept settled =
-      let low = two_low a b (is_high to) kept.low in
-      let both = two_are a b (is_number_text to) kept.sound low.0 low.1 kept.narrow kept.short in
-      (both.0, both.1, low_register to low.2)
-  instr_is body (sub a b to) kept settled =
-      let low = two_low a b (is_high to) kept.low in
-      let both = two_are a b (is_number_text to) kept.sound low.0 low.1 kept.narrow kept.short in
-      (both.0, both.1, low_register to low.2)
+      let low = or_parts _ _ kept.low in
+      (operand_is names from room (and_parts _ _ kept.sound).0 low.0 kept.narrow kept.short, low_register to low.1)
+  instr_is body (add a b to) kept settled = sum_is a b to kept.sound kept.low kept.narrow kept.short
+  instr_is body (sub a b to) kept settled = sum_is a b to kept.sound kept.low kept.narrow kept.short
   instr_is body (eq a b target) kept settled =
       let low = or_parts (has_high_operand a) (has_high_operand b) kept.low in
       let both = two_are a b (is_atom_text target) kept.sound low.0 low.1 kept.narrow kept.short in
@@ -226,23 +217,18 @@ module _ (names : Texts) (forms : List FunctionForm) (room : length names ≤ 40
       let low = or_parts (has_high_operand a) (has_high_operand b) kept.low in
       let both = two_are a b (is_atom_text target) kept.sound low.0 low.1 kept.narrow kept.short in
       (both.0, both.1, target_within target body)
-  instr_is body (jump target) kept settled = target_within target body
+  instr_is body (jump target) kept settled = target_within _ body
   instr_is body (call name arity at) kept settled = call_by name arity at (function_number name arity heads) (call_place arity at kept.low) refl settled
   instr_is body (call_ext name function arity at) kept settled =
-      let first = and_parts (is_atom_text name) (is_function_form function arity && is_number_text at) kept.sound in
-      let second = and_parts (is_function_form function arity) (is_number_text at) first.1 in
-      let third = and_parts (is_atom_text function) (is_arity_text arity) second.0 in
-      (record { module_named = atom_small names name room; name_named = atom_small names function room; arity = arity_few arity third.1 }, call_place arity at kept.low)
+      let third = and_parts _ _ (and_parts _ _ (and_parts _ _ kept.sound).1).0 in
+      (record { module_named = atom_small names name room; name_named = atom_small names _ room; arity = arity_few arity third.1 }, call_place arity at kept.low)
   instr_is body (ret value) kept settled = operand_is names value room kept.sound kept.low kept.narrow kept.short
   instr_is body (pget key to) kept settled = (atom_small names key room, low_register to kept.low)
   instr_is body (pget_or key other to) kept settled =
-      let sound = and_parts (is_operand_form other) (is_number_text to) (and_parts (is_atom_text key) (is_operand_form other && is_number_text to) kept.sound).1 in
-      let low = or_parts (has_high_operand other) (is_high to) kept.low in
+      let sound = and_parts _ _ (and_parts _ _ kept.sound).1 in
+      let low = or_parts _ _ kept.low in
       (atom_small names key room, operand_is names other room sound.0 low.0 kept.narrow kept.short, low_register to low.1)
-  instr_is body (elem index from to) kept settled =
-      let low = two_low index from (is_high to) kept.low in
-      let both = two_are index from (is_number_text to) kept.sound low.0 low.1 kept.narrow kept.short in
-      (both.0, both.1, low_register to low.2)
+  instr_is body (elem index from to) kept settled = sum_is index from to kept.sound kept.low kept.narrow kept.short
   instr_is body (print value) kept settled = operand_is names value room kept.sound kept.low kept.narrow kept.short
   instr_is body yield kept settled = tt
 
@@ -251,7 +237,7 @@ module _ (names : Texts) (forms : List FunctionForm) (room : length names ≤ 40
   settled_by t o h = absurd cc
 
   code_is : (body rest : List LineForm) → All IsKept rest → unsettled_at heads body rest ≡ None → All (IsInstr made (length (instrs_in body))) (map (instr_in names heads body) (instrs_in rest))
-  code_is body [] kept none = All-nil (IsInstr made (length (instrs_in body)))
+  code_is body [] kept none = All-nil _
   code_is body (instr i ∷ rest) kept none =
       let both = settled_by (is_settled heads body i) (unsettled_at heads body rest) none in
       let is = All-head IsKept (instr i) rest kept in
@@ -271,7 +257,7 @@ module _ (names : Texts) (forms : List FunctionForm) (room : length names ≤ 40
       }
 
   all_functions : (fs : List FunctionForm) → All (IsForm heads) fs → All (IsFunction made) (map (function_in names heads) fs)
-  all_functions [] all = All-nil (IsFunction made)
+  all_functions [] all = All-nil _
   all_functions (f ∷ fs) all =
       All-cons (IsFunction made) (function_in names heads f) (map (function_in names heads) fs)
       (function_is f (All-head (IsForm heads) f fs all)) (all_functions fs (All-tail (IsForm heads) f fs all))
@@ -284,7 +270,7 @@ few_after before (header exported name arity) h few =
     let below : nat_le 16 (length (headers_in before)) ≡ false = h in
     let one_more : length (headers_in before) + 1 ≤ 16 = grind (arith, nat_tests) in
     omega (arith, one_more, length-append (headers_in before) ((name, arity) ∷ []))
-few_after before line h few = omega (arith, few, length-append (headers_in before) [])
+few_after before line h few = omega (arith, length-append (headers_in before) [])
 
 pub heads_few : (names : Texts) (before lines : List LineForm) → FollowOn names before lines → length (headers_in before) ≤ 16 → length (headers_in (before ++ lines)) ≤ 16
 heads_few names before [] follow few = subst (λ ls. length (headers_in ls) ≤ 16) (sym (append-nil before)) few
@@ -314,33 +300,28 @@ slice_get-push_at (z ∷ zs) y (suc j) x e =
     ]
 
 header_same : (h : HeaderForm) → is_header h.0 h.1 h ≡ true
-header_same h = and_from (bytes_eq h.0 h.0) (bytes_eq h.1 h.1) (same_bytes h.0) (same_bytes h.1)
+header_same h = and_from _ _ (same_bytes h.0) (same_bytes h.1)
 
 apart_more : (hs : List HeaderForm) (h : HeaderForm) → HeadsApart hs → list_any (is_header h.0 h.1) hs ≡ false → HeadsApart (hs ++ h ∷ [])
 unfolding HeadsApart
 apart_more hs h apart new = λ i j a b below at_i at_j same.
     elim (slice_get-push_at hs h j b at_j) as (λ _. ⊥) [
       | inl there ↦
-          let within = slice_get_within hs j b there in
           elim (slice_get-push_at hs h i a at_i) as (λ _. ⊥) [
             | inl here ↦ apart i j a b below here there same
-            | inr last ↦ let end_at = last.0 in omega (arith, below, within, end_at)
+            | inr last ↦ let end_at = last.0 in omega (arith, slice_get_within hs j b there)
           ]
       | inr last ↦
-          let end_at = last.0 in
           elim (slice_get-push_at hs h i a at_i) as (λ _. ⊥) [
             | inl here ↦
-                let is : a ≡ h = same ∙ last.1 in
-                let no_header = none_passes (is_header h.0 h.1) hs i a new here in
-                let yes_header : is_header h.0 h.1 a ≡ true = ap (is_header h.0 h.1) is ∙ header_same h in
-                not_both (is_header h.0 h.1 a) yes_header no_header
-            | inr too ↦ let too_at = too.0 in omega (arith, below, end_at, too_at)
+                not_both (is_header h.0 h.1 a) (ap (is_header h.0 h.1) (same ∙ last.1) ∙ header_same h) (none_passes _ hs i a new here)
+            | inr too ↦ let too_at = too.0 in omega (arith, last.0)
           ]
     ]
 
 apart_after : (before : List LineForm) (line : LineForm) → is_repeated before line ≡ false → HeadsApart (headers_in before) → HeadsApart (headers_in before ++ headers_in (line ∷ []))
-apart_after before (header exported name arity) new apart = apart_more (headers_in before) (name, arity) apart new
-apart_after before line new apart = subst HeadsApart (sym (append-nil (headers_in before))) apart
+apart_after before (header exported name arity) new apart = apart_more _ _ apart new
+apart_after before line new apart = subst HeadsApart (sym (append-nil _)) apart
 
 pub heads_apart : (names : Texts) (before lines : List LineForm) → FollowOn names before lines → HeadsApart (headers_in before) → HeadsApart (headers_in (before ++ lines))
 heads_apart names before [] follow apart = subst (λ ls. HeadsApart (headers_in ls)) (sym (append-nil before)) apart
@@ -359,17 +340,17 @@ module _ (names : Texts) (text other : List ℕ) where
   named_by : (t : Bool) → is_some (number_of names other) ≡ t → IsNamed names text → IsNamed (cond t names (names ++ other ∷ [])) text
   named_by true is named = named
   named_by false is named =
-      is_some-position (bytes_eq text) (names ++ other ∷ []) ∙ list_any-append (bytes_eq text) names (other ∷ [])
-      ∙ ap (λ t. t || list_any (bytes_eq text) (other ∷ [])) (sym (is_some-position (bytes_eq text) names) ∙ named)
+      is_some-position (bytes_eq text) (names ++ other ∷ []) ∙ list_any-append _ names (other ∷ [])
+      ∙ ap (λ t. t || list_any (bytes_eq text) (other ∷ [])) (sym (is_some-position _ names) ∙ named)
 
   named_after : IsNamed names text → IsNamed (names_with names other) text
-  named_after named = named_by (is_some (number_of names other)) refl named
+  named_after named = named_by _ refl named
 
 named_new : (names : Texts) (text : List ℕ) (t : Bool) → is_some (number_of names text) ≡ t → IsNamed (cond t names (names ++ text ∷ [])) text
 named_new names text true is = is
 named_new names text false is =
-    is_some-position (bytes_eq text) (names ++ text ∷ []) ∙ list_any-append (bytes_eq text) names (text ∷ [])
-    ∙ ap (λ t. list_any (bytes_eq text) names || (t || false)) (same_bytes text) ∙ or_right (list_any (bytes_eq text) names) true refl
+    is_some-position (bytes_eq text) (names ++ text ∷ []) ∙ list_any-append _ names (text ∷ [])
+    ∙ ap (λ t. list_any (bytes_eq text) names || (t || false)) (same_bytes text) ∙ or_right _ true refl
 
 named_all : (names texts : Texts) (text : List ℕ) → IsNamed names text → IsNamed (names_with_all names texts) text
 named_all names [] text named = named
@@ -383,11 +364,9 @@ pub heads_named : (names : Texts) (lines : List LineForm) → All (λ h. IsNamed
 heads_named names [] = All-nil (λ h. IsNamed names h.0)
 heads_named names (title name version ∷ lines) = heads_named (names_after names (title name version)) lines
 heads_named names (header exported name arity ∷ lines) =
-    let after = names_behind (names_with names name) lines in
-    All-cons (λ h. IsNamed after h.0) (name, arity) (headers_in lines)
-    (named_behind (names_with names name) lines name (named_new names name (is_some (number_of names name)) refl)) (heads_named (names_with names name) lines)
+    All-cons (λ h. IsNamed (names_behind (names_with names name) lines) h.0) _ _ (named_behind _ lines name (named_new names name _ refl)) (heads_named _ lines)
 heads_named names (label name ∷ lines) = heads_named names lines
-heads_named names (instr i ∷ lines) = heads_named (names_after names (instr i)) lines
+heads_named names (instr i ∷ lines) = heads_named _ lines
 heads_named names (end ∷ lines) = heads_named names lines
 
 one_name : (names : Texts) (a b : List ℕ) (o p : Option ℕ) → number_of names a ≡ o → number_of names b ≡ p → is_some o ≡ true → is_some p ≡ true → unwrap_or o 0 ≡ unwrap_or p 0 → a ≡ b
@@ -397,7 +376,7 @@ one_name names a b o p is_a is_b some_a some_b same = absurd cc
 
 -- texts with one number are one
 pub names_one : (names : Texts) (a b : List ℕ) → IsNamed names a → IsNamed names b → number_in names a ≡ number_in names b → a ≡ b
-names_one names a b named_a named_b same = one_name names a b (number_of names a) (number_of names b) refl refl named_a named_b same
+names_one names a b named_a named_b same = one_name names a b _ _ refl refl named_a named_b same
 
 -- ---- numbers that are one have one text
 
@@ -405,7 +384,7 @@ number_text_by : (text : List ℕ) → (text ≡ 48 ∷ []) ⊎ (is_positive_tex
 number_text_by text (inl nought) small = nought ∙ sym (ap (λ t. decimal (number_value t)) nought ∙ decimal_digit 0 (omega arith))
 number_text_by text (inr positive) small =
     let p = Positive-from text positive in
-    sym (decimal-digits_value own text p.digits p.some (λ z. absurd (omega (arith, p.low, z))) small)
+    sym (decimal-digits_value own text p.digits p.some (λ z. absurd (omega (arith, p.low))) small)
 
 number_text_is : (text : List ℕ) → is_number_text text ≡ true → number_value text < 2 ^ 64 → text ≡ decimal (number_value text)
 number_text_is text h small =
@@ -415,8 +394,7 @@ number_text_is text h small =
 pub arities_one : (a b : List ℕ) → is_arity_text a ≡ true → is_arity_text b ≡ true → number_value a ≡ number_value b → a ≡ b
 arities_one a b is_a is_b same =
     let small_a : number_value a < 2 ^ 64 = omega (arith, arity_few a is_a) in
-    let small_b : number_value b < 2 ^ 64 = omega (arith, arity_few b is_b) in
-    number_text_is a (and_parts (is_number_text a) (nat_le (number_value a) 15) is_a).0 small_a ∙ ap decimal same ∙ sym (number_text_is b (and_parts (is_number_text b) (nat_le (number_value b) 15) is_b).0 small_b)
+    number_text_is a (and_parts _ _ is_a).0 small_a ∙ ap decimal same ∙ sym (number_text_is b (and_parts _ _ is_b).0 (omega (arith, arity_few b is_b)))
 
 -- ---- the image
 
@@ -444,9 +422,8 @@ short_of names before line (next ∷ lines) follow closed =
 image_short : (names after : Texts) (lines : List LineForm) → RowFrom None lines → All IsSound lines → ShortAt lines → length (module_image (module_of after lines)) ≤ 1024
 image_short names after lines row sound short =
     let over : nat_lt 1024 (length (module_image (module_of short.names (short.before ++ end ∷ [])))) ≡ false = short.short in
-    let small : length (module_image (module_of short.names (short.before ++ end ∷ []))) ≤ 1024 = grind (arith, nat_tests) in
-    let same = ap (λ ls. length (module_image (module_of short.names ls))) short.lines_are ∙ image_words short.names lines row sound ∙ sym (image_words after lines row sound) in
-    subst (λ n. n ≤ 1024) same small
+    let same = ap (λ ls. length (module_image (module_of short.names ls))) short.lines_are ∙ image_words _ lines row sound ∙ sym (image_words after lines row sound) in
+    subst (λ n. n ≤ 1024) same (grind (arith, nat_tests))
 
 -- ---- the whole
 
@@ -457,12 +434,11 @@ version_is lines titled kept = absurd titled
 
 functions_apart : (names : Texts) (headers : List HeaderForm) (forms : List FunctionForm) → All (IsForm headers) forms → All (λ h. IsNamed names h.0) (map head_of forms) → HeadsApart (map head_of forms) → (i j : ℕ) → i < j → SameFunction (map (function_in names headers) forms) i j → ⊥
 unfolding HeadsApart
-functions_apart names headers forms are named apart i j below same =
-    by_forms (slice_get forms i) refl (slice_get forms j) refl
+functions_apart names headers forms are named apart i j below same = by_forms _ refl _ refl
   where
     by_forms : (o : Option FunctionForm) → slice_get forms i ≡ o → (p : Option FunctionForm) → slice_get forms j ≡ p → ⊥
-    by_forms None at_i p at_j = let none : ◌≡◌ {A = Option Function} None (Some same.first) = sym (slice_get-map (function_in names headers) forms i ∙ ap (option_map (function_in names headers)) at_i) ∙ same.first_at in absurd cc
-    by_forms (Some f) at_i None at_j = let none : ◌≡◌ {A = Option Function} None (Some same.second) = sym (slice_get-map (function_in names headers) forms j ∙ ap (option_map (function_in names headers)) at_j) ∙ same.second_at in absurd cc
+    by_forms None at_i p at_j = let none : ◌≡◌ {A = Option Function} None (Some same.first) = sym (slice_get-map _ forms i ∙ ap (option_map (function_in names headers)) at_i) ∙ same.first_at in absurd cc
+    by_forms (Some f) at_i None at_j = let none : ◌≡◌ {A = Option Function} None (Some same.second) = sym (slice_get-map _ forms j ∙ ap (option_map (function_in names headers)) at_j) ∙ same.second_at in absurd cc
     by_forms (Some f) at_i (Some g) at_j =
         let first : function_in names headers f ≡ same.first = some_is (function_in names headers f) same.first (sym (slice_get-map (function_in names headers) forms i ∙ ap (option_map (function_in names headers)) at_i) ∙ same.first_at) in
         let second : function_in names headers g ≡ same.second = some_is (function_in names headers g) same.second (sym (slice_get-map (function_in names headers) forms j ∙ ap (option_map (function_in names headers)) at_j) ∙ same.second_at) in

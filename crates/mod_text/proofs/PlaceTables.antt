@@ -17,11 +17,11 @@ earlier-none (Some n) = refl
 -- a label that was added has its number, and each other one what it had
 pub place_added : (old new : Places) (name : Bor (List ℕ)) (number : ℕ) (o : Option ℕ) → o ≡ label_place old name.now → is_some o ≡ false → UpdatesBy (λ x y. bytes_eq x.now y.now) (λ k. bytes_eq name.now k.now) old new (Some number) → HasPlace old new name.now number
 place_added old new name number o is none updates = λ wanted.
-    hash_map_updates_str name.now old new (Some number) updates wanted ∙ by_test wanted (bytes_eq name.now wanted) refl (sym is ∙ none_by o none)
+    hash_map_updates_str _ old new _ updates _ ∙ by_test _ _ refl (sym is ∙ none_by o none)
   where
     by_test : (wanted : List ℕ) (t : Bool) → bytes_eq name.now wanted ≡ t → label_place old name.now ≡ None → cond t (Some number) (label_place old wanted) ≡ earlier (label_place old wanted) (cond t (Some number) None)
     by_test wanted true e before = ap (λ p. earlier p (Some number)) (sym (ap (label_place old) (sym ((bytes_eq-Decides name.now wanted).0 e)) ∙ before))
-    by_test wanted false e before = sym (earlier-none (label_place old wanted))
+    by_test wanted false e before = sym (earlier-none _)
 
 earlier-is : (o : Option ℕ) (other : Option ℕ) → is_some o ≡ true → o ≡ earlier o other
 earlier-is None other h = absurd cc
@@ -29,11 +29,11 @@ earlier-is (Some n) other h = refl
 
 -- a label that had a number keeps it
 pub place_kept : (old : Places) (name : Bor (List ℕ)) (number : ℕ) (o : Option ℕ) → o ≡ label_place old name.now → is_some o ≡ true → HasPlace old old name.now number
-place_kept old name number o is some = λ wanted. by_test wanted (bytes_eq name.now wanted) refl
+place_kept old name number o is some = λ wanted. by_test _ _ refl
   where
     by_test : (wanted : List ℕ) (t : Bool) → bytes_eq name.now wanted ≡ t → label_place old wanted ≡ earlier (label_place old wanted) (cond t (Some number) None)
     by_test wanted true e = earlier-is (label_place old wanted) (Some number) (ap is_some (ap (label_place old) (sym ((bytes_eq-Decides name.now wanted).0 e)) ∙ sym is) ∙ some)
-    by_test wanted false e = sym (earlier-none (label_place old wanted))
+    by_test wanted false e = sym (earlier-none _)
 
 -- ---- the labels of lines
 
@@ -46,7 +46,7 @@ suc_if true n = refl
 suc_if false n = refl
 
 label_at-suc : (number : ℕ) (wanted : List ℕ) (line : LineForm) → option_map suc (label_at number wanted line) ≡ label_at (suc number) wanted line
-label_at-suc number wanted (label name) = suc_if (bytes_eq name wanted) number
+label_at-suc number wanted (label name) = suc_if _ _
 label_at-suc number wanted line = refl
 
 first_label : (wanted : List ℕ) (line : LineForm) → label_number wanted (line ∷ []) ≡ label_at 0 wanted line
@@ -55,16 +55,15 @@ first_label wanted line = refl
 
 -- a line more gives its label a number, unless it had one
 pub label_number-push : (wanted : List ℕ) (lines : List LineForm) (line : LineForm) → label_number wanted (lines ++ line ∷ []) ≡ earlier (label_number wanted lines) (label_at (length (instrs_in lines)) wanted line)
-label_number-push wanted [] line = first_label wanted line
+label_number-push wanted [] line = first_label _ line
 label_number-push wanted (label name ∷ lines) line =
     elim (bytes_eq name wanted) as (λ t. cond t (Some 0) (label_number wanted (lines ++ line ∷ [])) ≡ earlier (cond t (Some 0) (label_number wanted lines)) (label_at (length (instrs_in lines)) wanted line)) [
       | true ↦ refl
-      | false ↦ label_number-push wanted lines line
+      | false ↦ label_number-push _ lines line
     ]
 label_number-push wanted (instr i ∷ lines) line =
-    ap (option_map suc) (label_number-push wanted lines line) ∙ earlier-suc (label_number wanted lines) (label_at (length (instrs_in lines)) wanted line)
-    ∙ ap (earlier (option_map suc (label_number wanted lines))) (label_at-suc (length (instrs_in lines)) wanted line)
-label_number-push wanted (first ∷ lines) line = label_number-push wanted lines line
+    ap (option_map suc) (label_number-push _ lines line) ∙ earlier-suc _ _ ∙ ap (earlier _) (label_at-suc _ _ line)
+label_number-push wanted (first ∷ lines) line = label_number-push _ lines line
 
 last_count : (line : LineForm) → length (instrs_in (line ∷ [])) ≡ number_after 0 line
 last_count (title name version) = refl
@@ -76,7 +75,7 @@ number_after-suc number line = refl
 
 pub count-push : (lines : List LineForm) (line : LineForm) → length (instrs_in (lines ++ line ∷ [])) ≡ number_after (length (instrs_in lines)) line
 count-push [] line = last_count line
-count-push (instr i ∷ lines) line = ap suc (count-push lines line) ∙ number_after-suc (length (instrs_in lines)) line
+count-push (instr i ∷ lines) line = ap suc (count-push lines line) ∙ number_after-suc _ line
 count-push (first ∷ lines) line = count-push lines line
 
 -- what the loop keeps
@@ -90,8 +89,7 @@ forms_more body i d within = ap forms_of (take_more body i d within) ∙ map-app
 pub places_more : (old new : Places) (number next : ℕ) (body : List (Bor (List ℕ))) (i : ℕ) (d : Bor (List ℕ)) → i < length body → PlacesSoFar old number (forms_of (take i body)) → TakesLine old new number (form_of (get_or body i d)) → next ≡ number_after number (form_of (get_or body i d)) → PlacesSoFar new next (forms_of (take (i + 1) body))
 places_more old new number next body i d within so_far takes counts =
     let line = form_of (get_or body i d) in
-    subst (PlacesSoFar new next) (sym (forms_more body i d within))
-    (record {
-      places_are = λ wanted. takes wanted ∙ ap (λ o. earlier o (label_at number wanted line)) (so_far.places_are wanted) ∙ ap (λ n. earlier (label_number wanted (forms_of (take i body))) (label_at n wanted line)) so_far.counted ∙ sym (label_number-push wanted (forms_of (take i body)) line);
+    subst (PlacesSoFar new next) (sym (forms_more body i d within)) (record {
+      places_are = λ wanted. takes _ ∙ ap (λ o. earlier o (label_at number wanted line)) (so_far.places_are wanted) ∙ ap (λ n. earlier (label_number wanted (forms_of (take i body))) (label_at n wanted line)) so_far.counted ∙ sym (label_number-push wanted (forms_of (take i body)) line);
       counted = counts ∙ ap (λ n. number_after n line) so_far.counted ∙ sym (count-push (forms_of (take i body)) line);
     })

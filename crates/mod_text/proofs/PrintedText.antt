@@ -31,11 +31,10 @@ pub module_written : {T E : Type 0} (r : Result T E) (names : Texts) (m : Module
     functions ≡ titled ++ flat_map (λ f. lines_written (function_lines names m.functions f)) m.functions →
     OnOk r (whole ≡ functions ++ line_bytes end) → OnOk r (whole ≡ start ++ lines_written (canonical names m))
 module_written r names m start titled functions whole e f g =
-    IfOk-equal r whole (functions ++ line_bytes end) (start ++ lines_written (canonical names m)) g
-    (goes_on start titled functions (line_bytes (title (atom_text names m.name.0) (decimal m.version))) (flat_map (λ h. lines_written (function_lines names m.functions h)) m.functions) (line_bytes end) e f
+    IfOk-equal r whole _ _ g (goes_on start _ _ _ (flat_map (λ h. lines_written (function_lines names m.functions h)) m.functions) _ e f
     ∙ ap (λ t. start ++ (line_bytes (title (atom_text names m.name.0) (decimal m.version)) ++ t))
     (ap (λ t. t ++ line_bytes end) (sym (lines_of_functions names m.functions m.functions)) ∙ sym (flat_map-append line_bytes (flat_map (function_lines names m.functions) m.functions) (end ∷ []))))
 
 -- a module's functions have no more places than are marked
 pub few_places : (m : Module) (fs : List Function) → fs ≡ m.functions → IsModule m → All (λ f. length f.code < 1025) fs
-few_places m fs same is = subst (All (λ f. length f.code < 1025)) (sym same) (All-weaker (λ f. length f.code ≤ 1024) (λ f. length f.code < 1025) (λ f few. omega (arith, few)) m.functions (few_instrs m is))
+few_places m fs same is = subst (All (λ f. length f.code < 1025)) (sym same) (All-weaker (λ f. length f.code ≤ 1024) (λ f. length f.code < 1025) (λ f few. omega arith) _ (few_instrs m is))

@@ -30,7 +30,7 @@ module _ (lines : List (Bor (List ℕ))) (i : ℕ) (d : Bor (List ℕ)) (within 
       subst IsKept (get_or-map form_of lines i d (form_of d) within) (All-get_or IsKept (forms_of lines) i (form_of d) (omega (arith, within, length-map lines form_of)) kept)
 
 pub kept_behind : (lines : List (Bor (List ℕ))) (i : ℕ) → All IsKept (forms_of lines) → All IsKept (forms_of (drop i lines))
-kept_behind lines i kept = subst (All IsKept) (drop-map form_of i lines) (All-drop IsKept i (forms_of lines) kept)
+kept_behind lines i kept = subst (All IsKept) (drop-map _ i lines) (All-drop IsKept i _ kept)
 
 -- a line of the body goes to its front
 pub body_goes_on : (line : LineForm) (lines : List LineForm) → is_body_line line ≡ true → body_of (line ∷ lines) ≡ line ∷ body_of lines
@@ -58,8 +58,7 @@ module _ (lines : List (Bor (List ℕ))) (i : ℕ) (d : Bor (List ℕ)) (within 
       ∙ ap (λ ls. ls ++ body_of rest) (sym (ap forms_of (take_more lines i d within) ∙ map-append form_of (take i lines) (get_or lines i d ∷ [])))
 
 pub body_is_whole : (lines : List (Bor (List ℕ))) (i : ℕ) → length lines ≤ i → body_of (forms_of lines) ≡ forms_of (take i lines) ++ body_of (forms_of (drop i lines)) → forms_of lines ≡ body_of (forms_of lines)
-body_is_whole lines i past so_far =
-    sym (so_far ∙ (λ j. forms_of (take_all i lines past j) ++ body_of (forms_of (drop_all i lines past j))) ∙ append-nil (forms_of lines))
+body_is_whole lines i past so_far = sym (so_far ∙ (λ j. forms_of (take_all i lines past j) ++ body_of (forms_of (drop_all i lines past j))) ∙ append-nil _)
 
 -- ---- numbers of lines
 
@@ -79,13 +78,13 @@ on_true false P h e = absurd cc
 -- the lines of a body were kept where all were
 pub kept_body : (lines : List LineForm) → All IsKept lines → All IsKept (body_of lines)
 kept_body [] kept = kept
-kept_body (label name ∷ lines) kept = All-cons IsKept (label name) (body_of lines) (All-head IsKept (label name) lines kept) (kept_body lines (All-tail IsKept (label name) lines kept))
-kept_body (instr i ∷ lines) kept = All-cons IsKept (instr i) (body_of lines) (All-head IsKept (instr i) lines kept) (kept_body lines (All-tail IsKept (instr i) lines kept))
+kept_body (label name ∷ lines) kept = All-cons IsKept _ _ (All-head IsKept _ lines kept) (kept_body lines (All-tail IsKept _ lines kept))
+kept_body (instr i ∷ lines) kept = All-cons IsKept _ _ (All-head IsKept _ lines kept) (kept_body lines (All-tail IsKept _ lines kept))
 kept_body lines kept = All-nil IsKept
 
 -- a version is small
 pub version_small : (name version : List ℕ) → is_line_form (title name version) ≡ true → number_value version < 2 ^ 32
-version_small name version sound = let high = (version_bounds version (and_parts (is_atom_text name) (is_version_text version) sound).1).1 in omega (arith, high)
+version_small name version sound = let high = (version_bounds version (and_parts (is_atom_text name) (is_version_text version) sound).1).1 in omega arith
 
 -- what the title of a module has
 pub record HasVersion (text : List ℕ) : Type 0 where
@@ -118,7 +117,7 @@ pub record CodeSoFar (names : Texts) (headers : List HeaderForm) (body : List (B
 
 module _ (names : Texts) (headers : List HeaderForm) (body : List (Bor (List ℕ))) where
   pub code_starts : (code : List Instr) → code ≡ [] → CodeSoFar names headers body 0 code
-  code_starts code none = record { code_is = none; settled = later-zero (unsettled_in headers (forms_of body)) }
+  code_starts code none = record { code_is = none; settled = later-zero _ }
 
   pub code_more : (i : ℕ) (d : Bor (List ℕ)) (code new : List Instr) → i < length body → CodeSoFar names headers body i code → true ≡ is_settled_line headers (forms_of body) (form_of (get_or body i d)) → new ≡ code ++ map (instr_in names headers (forms_of body)) (instrs_in (form_of (get_or body i d) ∷ [])) → CodeSoFar names headers body (i + 1) new
   code_more i d code new within so_far here pushed =
@@ -154,7 +153,7 @@ some_if false x y e = absurd cc
 
 -- an instruction that is settled
 pub settled_is : (names : Texts) (headers : List HeaderForm) (body : List LineForm) (i : InstrForm) (x : Instr) → Some x ≡ settled_instr names headers body i → (is_settled headers body i ≡ true) × (x ≡ instr_in names headers body i)
-settled_is names headers body i x is = some_if (is_settled headers body i) x (instr_in names headers body i) is
+settled_is names headers body i x is = some_if _ x _ is
 
 -- ---- the functions of a module
 
@@ -220,5 +219,5 @@ module _ (names : Texts) (headers : List HeaderForm) (lines : List (Bor (List �
 
 -- the number of a line behind a place fits
 pub later_fits : (lines : List (Bor (List ℕ))) (i : ℕ) (behind : List (Bor (List ℕ))) (fault : FinishFault) → length lines < 2 ^ 64 → i < length lines → behind ≡ drop (i + 1) lines → IsUnsettledBelow (length behind) fault → IsUnsettledBelow (2 ^ 64 - (i + 1)) fault
-later_fits lines i behind (Missing n) small within is below = omega (arith, below, small, ap length is, length-drop (i + 1) lines)
+later_fits lines i behind (Missing n) small within is below = omega (arith, ap length is, length-drop (i + 1) lines)
 later_fits lines i behind NoMemory small within is below = tt

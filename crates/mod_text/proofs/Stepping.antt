@@ -19,7 +19,7 @@ is_end-lines (b ∷ bs) =
     let some : (suc (length bs) == 0) ≡ false = grind (arith, nat_tests) in
     elim (b == 10) as (λ (t : Bool). has_no_line (cond t (lines ([] ∷ (lines_of_text bs).ended) (lines_of_text bs).tail) (before_lines b (lines_of_text bs).ended (lines_of_text bs).tail)).ended (cond t (lines ([] ∷ (lines_of_text bs).ended) (lines_of_text bs).tail) (before_lines b (lines_of_text bs).ended (lines_of_text bs).tail)).tail ≡ (suc (length bs) == 0)) [
       | true ↦ sym some
-      | false ↦ end_of_before b (lines_of_text bs).ended (lines_of_text bs).tail ∙ sym some
+      | false ↦ end_of_before b _ _ ∙ sym some
     ]
 
 -- the reading of a line at the front, and of what is behind it
@@ -31,7 +31,7 @@ front_read names before text behind =
 module _ (names : Texts) (before : List LineForm) (bytes : List ℕ) where
   pub bytes_on-cut : (text behind : List ℕ) → cut_at 10 bytes ≡ Some (text, behind) → bytes_on names before bytes ≡ front_read names before text behind
   bytes_on-cut text behind cut =
-      ap (λ (w : Lines). text_on names before w.ended w.tail) (lines_of_cut bytes (text, behind) cut)
+      ap (λ (w : Lines). text_on names before w.ended w.tail) (lines_of_cut bytes _ cut)
       ∙ ap (λ (t : Bool). cond (t && not (bytes_eq text (codes "end"))) (stop_at (length before) faults.Syntax) (go_on (length before) (line_step names before text) (λ named read. cond t (Ok (named, read)) (bytes_on named read behind)))) (is_end-lines behind)
 
   pub bytes_on-uncut : cut_at 10 bytes ≡ None → bytes_on names before bytes ≡ stop_at (length before) faults.Syntax
@@ -41,15 +41,13 @@ module _ (names : Texts) (before : List LineForm) (bytes : List ℕ) where
 
 -- what was cut is shorter
 pub behind_shorter : (bytes text behind : List ℕ) → cut_at 10 bytes ≡ Some (text, behind) → length behind < length bytes
-behind_shorter bytes text behind cut =
-    let whole = ap length (cut_is 10 bytes (text, behind) cut).whole ∙ length-append text (10 ∷ behind) in
-    omega (arith, whole)
+behind_shorter bytes text behind cut = omega (arith, (ap length (cut_is 10 bytes _ cut).whole ∙ length-append text _))
 
 module _ (names : Texts) (before : List LineForm) (bytes text behind : List ℕ) where
   -- the text goes on behind a line, or the line is `end`
   pub goes_on : cut_at 10 bytes ≡ Some (text, behind) → ((length behind == 0) && not (bytes_eq text (codes "end"))) ≡ false → bytes_on names before bytes ≡ go_on (length before) (line_step names before text) (λ named read. read_behind named read behind)
   goes_on cut further =
-      bytes_on-cut names before bytes text behind cut ∙ failed ((length behind == 0) && not (bytes_eq text (codes "end"))) (stop_at (length before) faults.Syntax) (go_on (length before) (line_step names before text) (λ named read. read_behind named read behind)) further
+      bytes_on-cut names _ bytes text _ cut ∙ failed _ _ (go_on (length before) (line_step names before text) (λ named read. read_behind named read behind)) further
 
   -- a line that was read leads on
   pub line_leads : (named : Texts) (read : List LineForm) → cut_at 10 bytes ≡ Some (text, behind) → ((length behind == 0) && not (bytes_eq text (codes "end"))) ≡ false → line_step names before text ≡ Ok (named, read) → bytes_on names before bytes ≡ read_behind named read behind
@@ -71,10 +69,10 @@ syntax_stops read number at stop counted is stops =
 
 -- a line without its line feed
 pub unended_stops : (names : Texts) (before : List LineForm) (bytes : List ℕ) (number : ℕ) (stop : LineStop) → number ≡ length before → stop ≡ record { number = number; fault = faults.Syntax } → cut_at 10 bytes ≡ None → StopsSo (bytes_on names before bytes) stop
-unended_stops names before bytes number stop counted is cut = syntax_stops (bytes_on names before bytes) number (length before) stop counted is (bytes_on-uncut names before bytes cut)
+unended_stops names before bytes number stop counted is cut = syntax_stops _ _ _ stop counted is (bytes_on-uncut names _ bytes cut)
 
 -- a last line that is not `end`
 pub early_stops : (names : Texts) (before : List LineForm) (bytes text behind : List ℕ) (number : ℕ) (stop : LineStop) → number ≡ length before → stop ≡ record { number = number; fault = faults.Syntax } → cut_at 10 bytes ≡ Some (text, behind) → ((length behind == 0) && not (bytes_eq text (codes "end"))) ≡ true → StopsSo (bytes_on names before bytes) stop
 early_stops names before bytes text behind number stop counted is cut early =
-    syntax_stops (bytes_on names before bytes) number (length before) stop counted is
-    (bytes_on-cut names before bytes text behind cut ∙ passed ((length behind == 0) && not (bytes_eq text (codes "end"))) (stop_at (length before) faults.Syntax) (go_on (length before) (line_step names before text) (λ named read. read_behind named read behind)) early)
+    syntax_stops _ _ _ stop counted is
+    (bytes_on-cut names _ bytes text _ cut ∙ passed ((length behind == 0) && not (bytes_eq text (codes "end"))) (stop_at (length before) faults.Syntax) (go_on (length before) (line_step names before text) (λ named read. read_behind named read behind)) early)

@@ -36,22 +36,22 @@ ok_is x y e = cc
 module _ (names : Texts) (before : List LineForm) (text : List ℕ) (line : LineForm) where
   kept_is : (o : Option LineFault) (named : Texts) (read : List LineForm) → LineText text line → may_follow (last_line before) line ≡ true → fault_of_line names before line ≡ o → kept names before line o ≡ Ok (named, read) → IsStep names before text named read
   kept_is None named read is place none e =
-      let same : ◌≡◌ {A = Texts × List LineForm} (names_after names line, before ++ line ∷ []) (named, read) = ok_is (names_after names line, before ++ line ∷ []) (named, read) e in
+      let same : ◌≡◌ {A = Texts × List LineForm} (names_after names line, before ++ line ∷ []) (named, read) = ok_is _ _ e in
       record { line = line; next = record { stands = record { is_text = is; place = place }; within = none }; lines_are = sym (ap (λ p. p.1) same); names_are = sym (ap (λ p. p.0) same) }
   kept_is (Some fault) named read is place none e = absurd cc
 
   placed_is : (named : Texts) (read : List LineForm) (t : Bool) → LineText text line → may_follow (last_line before) line ≡ t → cond {A = Step} t (kept names before line (fault_of_line names before line)) (Err faults.Syntax) ≡ Ok (named, read) → IsStep names before text named read
-  placed_is named read true is place e = kept_is (fault_of_line names before line) named read is place refl e
+  placed_is named read true is place e = kept_is _ named read is place refl e
   placed_is named read false is place e = absurd cc
 
 module _ (names : Texts) (before : List LineForm) (text : List ℕ) (named : Texts) (read : List LineForm) where
   step_by : (o : Option LineForm) → line_reading text ≡ o → judged names before o ≡ Ok (named, read) → IsStep names before text named read
   step_by None is e = absurd cc
-  step_by (Some line) is e = placed_is names before text line named read (may_follow (last_line before) line) (line_is text line is) refl e
+  step_by (Some line) is e = placed_is names _ text line named read _ (line_is text line is) refl e
 
   -- a line that was read may follow those before it
   pub step_is : line_step names before text ≡ Ok (named, read) → IsStep names before text named read
-  step_is e = step_by (line_reading text) refl e
+  step_is e = step_by _ refl e
 
 module _ (names : Texts) (before : List LineForm) (text : List ℕ) (line : LineForm) where
   -- how a line of a form is judged
@@ -77,19 +77,19 @@ no_place before text line is misplaced other stands =
     absurd cc
 
 place_fault_is : (names : Texts) (before : List LineForm) (text : List ℕ) (line : LineForm) (fault : LineFault) (t : Bool) → LineText text line → may_follow (last_line before) line ≡ t → cond {A = Step} t (kept names before line (fault_of_line names before line)) (Err faults.Syntax) ≡ Err fault → HasLineFault names before text fault
-place_fault_is names before text line fault true is place e = fault_by names before text line fault (fault_of_line names before line) (record { is_text = is; place = place }) refl e
-place_fault_is names before text line fault false is place e = let same : faults.Syntax ≡ fault = cc in subst (HasLineFault names before text) same (of_no_form (no_place before text line is place))
+place_fault_is names before text line fault true is place e = fault_by names _ text line fault _ (record { is_text = is; place = place }) refl e
+place_fault_is names before text line fault false is place e = let same : faults.Syntax ≡ fault = cc in subst (HasLineFault names before text) same (of_no_form (no_place _ text line is place))
 
 no_line : (text : List ℕ) (before : List LineForm) → line_reading text ≡ None → (line : LineForm) → StandsBehind before text line → ⊥
 no_line text before none line stands = let read = text_again text line stands.is_text in absurd cc
 
 module _ (names : Texts) (before : List LineForm) (text : List ℕ) where
   step_fault_by : (fault : LineFault) (o : Option LineForm) → line_reading text ≡ o → judged names before o ≡ Err fault → HasLineFault names before text fault
-  step_fault_by fault None is e = let same : faults.Syntax ≡ fault = cc in subst (HasLineFault names before text) same (of_no_form (no_line text before is))
-  step_fault_by fault (Some line) is e = place_fault_is names before text line fault (may_follow (last_line before) line) (line_is text line is) refl e
+  step_fault_by fault None is e = let same : faults.Syntax ≡ fault = cc in subst (HasLineFault names before text) same (of_no_form (no_line text _ is))
+  step_fault_by fault (Some line) is e = place_fault_is names _ text line fault _ (line_is text line is) refl e
 
   pub step_fault : (fault : LineFault) → line_step names before text ≡ Err fault → HasLineFault names before text fault
-  step_fault fault e = step_fault_by fault (line_reading text) refl e
+  step_fault fault e = step_fault_by fault _ refl e
 
   -- and each cause its refusal
   formless_by : (o : Option LineForm) → ((line : LineForm) → StandsBehind before text line → ⊥) → line_reading text ≡ o → judged names before o ≡ Err faults.Syntax
@@ -101,8 +101,8 @@ module _ (names : Texts) (before : List LineForm) (text : List ℕ) where
       ] refl
 
   pub fault_step : (fault : LineFault) → HasLineFault names before text fault → line_step names before text ≡ Err fault
-  fault_step _ (of_no_form never) = formless_by (line_reading text) never refl
-  fault_step _ (over_limit line fault stands is) = judged_at names before text line (Some fault) stands is
+  fault_step _ (of_no_form never) = formless_by _ never refl
+  fault_step _ (over_limit line fault stands is) = judged_at names _ text line _ stands is
 
 -- ---- the bytes of lines
 
@@ -123,7 +123,7 @@ joined_lines [] = refl
 joined_lines (b ∷ bs) =
     elim (b == 10) as (λ (t : Bool). (b == 10) ≡ t → joined (cond t (lines ([] ∷ (lines_of_text bs).ended) (lines_of_text bs).tail) (before_lines b (lines_of_text bs).ended (lines_of_text bs).tail)).ended (cond t (lines ([] ∷ (lines_of_text bs).ended) (lines_of_text bs).tail) (before_lines b (lines_of_text bs).ended (lines_of_text bs).tail)).tail ≡ b ∷ bs) [
       | true ↦ λ is. ap (λ k. k ∷ joined (lines_of_text bs).ended (lines_of_text bs).tail) (sym (eqb-true b 10 is)) ∙ ap (λ l. b ∷ l) (joined_lines bs)
-      | false ↦ λ _. joined_before b (lines_of_text bs).ended (lines_of_text bs).tail ∙ ap (λ l. b ∷ l) (joined_lines bs)
+      | false ↦ λ _. joined_before b _ _ ∙ ap (λ l. b ∷ l) (joined_lines bs)
     ] refl
 
 joined-append : (xs ys : Texts) (tail : List ℕ) → joined (xs ++ ys) tail ≡ joined xs (joined ys tail)
@@ -162,7 +162,7 @@ pub record IsReadOn (names : Texts) (before : List LineForm) (ended : Texts) (ta
   pub names_are : named ≡ names_behind names more
 
 end_line : (text : List ℕ) (line : LineForm) → LineText text line → bytes_eq text (codes "end") ≡ true → line ≡ end
-end_line text line is ends = some_is line end (sym (text_again text line is) ∙ ap line_reading (bytes_are text (codes "end") ends))
+end_line text line is ends = some_is line end (sym (text_again text line is) ∙ ap line_reading (bytes_are text _ ends))
 
 nothing_left : (ended : Texts) (tail : List ℕ) → has_no_line ended tail ≡ true → (ended ≡ []) × (tail ≡ [])
 nothing_left [] [] h = (refl, refl)
@@ -189,16 +189,16 @@ pair_is n r n' r' e f = λ i. (e i, f i)
 module _ (names : Texts) (before : List LineForm) (text : List ℕ) (others : Texts) (tail : List ℕ) (named : Texts) (read : List LineForm) where
   last_is_read : (n : Texts) (r : List LineForm) → IsStep names before text n r → has_no_line others tail ≡ true → bytes_eq text (codes "end") ≡ true → ◌≡◌ {A = Read} (Ok (n, r)) (Ok (named, read)) → IsReadOn names before (text ∷ others) tail named read
   last_is_read n r step last ends e =
-      let left = nothing_left others tail last in
-      let same : ◌≡◌ {A = Texts × List LineForm} (n, r) (named, read) = ok_is (n, r) (named, read) e in
+      let left = nothing_left _ tail last in
+      let same : ◌≡◌ {A = Texts × List LineForm} (n, r) (named, read) = ok_is _ _ e in
       let reads : read ≡ before ++ step.line ∷ [] = sym (ap (λ p. p.1) same) ∙ step.lines_are in
       record {
         more = step.line ∷ [];
         whole = reads;
         texts = (λ i. step.next.stands.is_text.text_is i ∷ left.0 i);
         no_tail = left.1;
-        follow = (next_of_text names before text step.line step.next, tt);
-        closed = ap last_line reads ∙ last_line-push before step.line ∙ ap (λ l. Some l) (end_line text step.line step.next.stands.is_text ends);
+        follow = (next_of_text names _ text _ step.next, tt);
+        closed = ap last_line reads ∙ last_line-push before _ ∙ ap (λ l. Some l) (end_line text _ step.next.stands.is_text ends);
         names_are = sym (ap (λ p. p.0) same) ∙ step.names_are;
       }
 
@@ -268,7 +268,7 @@ bytes_are_read names bytes named forms e =
     let is = text_is_read names [] (lines_of_text bytes).ended (lines_of_text bytes).tail named forms e in
     let same : is.more ≡ forms = sym is.whole in
     record {
-      spelled = sym (joined_lines bytes) ∙ (λ i. joined (is.texts i) (is.no_tail i)) ∙ joined_forms is.more [] ∙ append-nil (lines_written is.more) ∙ ap lines_written same;
+      spelled = sym (joined_lines bytes) ∙ (λ i. joined (is.texts i) (is.no_tail i)) ∙ joined_forms _ [] ∙ append-nil _ ∙ ap lines_written same;
       faultless = subst (FollowOn names []) same is.follow;
       closed = is.closed;
       names_are = is.names_are ∙ ap (names_behind names) same;
@@ -296,14 +296,14 @@ err_is x y e = cc
 
 stops_here : (names : Texts) (before : List LineForm) (ended : Texts) (tail : List ℕ) (fault : LineFault) (stop : LineStop) → FrontFault names before tail ended fault → stop_at (length before) fault ≡ Err stop → IsStopped names before ended tail stop
 stops_here names before ended tail fault stop here e =
-    let same : ◌≡◌ {A = LineStop} (record { number = length before; fault = fault }) stop = err_is (record { number = length before; fault = fault }) stop e in
+    let same : ◌≡◌ {A = LineStop} (record { number = length before; fault = fault }) stop = err_is _ stop e in
     record {
       more = [];
       left = ended;
       texts = refl;
       follow = tt;
-      counted = sym (ap (λ (s : LineStop). s.number) same) ∙ ap length (sym (append-nil before));
-      here = subst (λ b. FrontFault names b tail ended stop.fault) (sym (append-nil before)) (subst (FrontFault names before tail ended) (ap (λ (s : LineStop). s.fault) same) here);
+      counted = sym (ap (λ (s : LineStop). s.number) same) ∙ ap length (sym (append-nil _));
+      here = subst (λ b. FrontFault names b tail ended stop.fault) (sym (append-nil _)) (subst (FrontFault names before tail ended) (ap (λ (s : LineStop). s.fault) same) here);
     }
 
 never_last : (before : List LineForm) (line : LineForm) (others : Texts) (tail : List ℕ) → has_no_line others tail ≡ false → has_no_line others tail ≡ true → before ++ line ∷ [] ≡ []
@@ -324,7 +324,7 @@ module _ (names : Texts) (before : List LineForm) (text : List ℕ) (others : Te
       }
 
   step_stops : (s : Step) → ((n : Texts) (r : List LineForm) → (has_no_line others tail ≡ true → r ≡ []) → text_on n r others tail ≡ Err stop → IsStopped n r others tail stop) → line_step names before text ≡ s → (has_no_line others tail && not (bytes_eq text (codes "end"))) ≡ false → go_on (length before) s (λ n r. cond (has_no_line others tail) (Ok (n, r)) (text_on n r others tail)) ≡ Err stop → IsStopped names before (text ∷ others) tail stop
-  step_stops (Err fault) again is goes h = stops_here names before (text ∷ others) tail fault stop (refused text others fault goes is) h
+  step_stops (Err fault) again is goes h = stops_here names _ _ tail fault stop (refused text _ fault goes is) h
   step_stops (Ok x) again is goes h =
       let step = step_is names before text x.0 x.1 is in
       elim (has_no_line others tail) as (λ t. has_no_line others tail ≡ t → cond {A = Read} t (Ok (x.0, x.1)) (text_on x.0 x.1 others tail) ≡ Err stop → IsStopped names before (text ∷ others) tail stop) [
@@ -333,7 +333,7 @@ module _ (names : Texts) (before : List LineForm) (text : List ℕ) (others : Te
       ] refl h
 
 text_is_stopped : (names : Texts) (before : List LineForm) (ended : Texts) (tail : List ℕ) (stop : LineStop) → (has_no_line ended tail ≡ true → before ≡ []) → text_on names before ended tail ≡ Err stop → IsStopped names before ended tail stop
-text_is_stopped names before [] tail stop opens e = stops_here names before [] tail faults.Syntax stop (no_line_feed opens) e
+text_is_stopped names before [] tail stop opens e = stops_here names _ [] tail faults.Syntax stop (no_line_feed opens) e
 text_is_stopped names before (text ∷ others) tail stop opens e =
     elim (has_no_line others tail && not (bytes_eq text (codes "end"))) as (λ t. (has_no_line others tail && not (bytes_eq text (codes "end"))) ≡ t → cond {A = Read} t (stop_at (length before) faults.Syntax) (go_on (length before) (line_step names before text) (λ n r. cond (has_no_line others tail) (Ok (n, r)) (text_on n r others tail))) ≡ Err stop → IsStopped names before (text ∷ others) tail stop) [
       | true ↦ λ early h. stops_here names before (text ∷ others) tail faults.Syntax stop (no_end text others (both_true_first (has_no_line others tail) (bytes_eq text (codes "end")) early) (both_true_second (has_no_line others tail) (bytes_eq text (codes "end")) early)) h
@@ -361,7 +361,7 @@ lines_lack (b ∷ bs) =
     let rest = lines_lack bs in
     elim (b == 10) as (λ (t : Bool). (b == 10) ≡ t → LinesLack (cond t (lines ([] ∷ (lines_of_text bs).ended) (lines_of_text bs).tail) (before_lines b (lines_of_text bs).ended (lines_of_text bs).tail))) [
       | true ↦ λ _. record { ended = (refl, rest.ended); tail = rest.tail }
-      | false ↦ λ other. before_lack b (lines_of_text bs).ended (lines_of_text bs).tail other rest.ended rest.tail
+      | false ↦ λ other. before_lack b _ _ other rest.ended rest.tail
     ] refl
 
 left_lack : (xs ys : Texts) → AllLack (xs ++ ys) → AllLack ys
@@ -386,25 +386,24 @@ front_fault : (names : Texts) (before : List LineForm) (tail : List ℕ) (left :
 unfolding joined
 front_fault names before tail _ _ tail_lacks all (no_line_feed opens) = unended tail_lacks (λ none. opens (ended_none tail none))
 front_fault names before tail _ _ tail_lacks all (no_end text others last other) =
-    let left = nothing_left others tail last in
+    let left = nothing_left _ tail last in
     stops text all.0 (λ i. text ++ 10 ∷ joined (left.0 i) (left.1 i)) (differs text other)
 front_fault names before tail _ _ tail_lacks all (refused text others fault goes step) =
-    faulty text (joined others tail) fault all.0 refl (λ none. bytes_are text (codes "end") (both_false (has_no_line others tail) (bytes_eq text (codes "end")) (nothing_joined others tail none) goes)) (step_fault names before text fault step)
+    faulty text _ fault all.0 refl (λ none. bytes_are text _ (both_false _ _ (nothing_joined _ tail none) goes)) (step_fault names _ text fault step)
 
 -- what stops a reading is the first fault
 pub first_fault : (names : Texts) (bytes : List ℕ) (stop : LineStop) → bytes_on names [] bytes ≡ Err stop → FirstFault names bytes stop.number stop.fault
 first_fault names bytes stop e =
-    let ended = (lines_of_text bytes).ended in
     let tail = (lines_of_text bytes).tail in
-    let is = text_is_stopped names [] ended tail stop (λ _. refl) e in
+    let is = text_is_stopped names [] ((lines_of_text bytes).ended) tail stop (λ _. refl) e in
     let lack = lines_lack bytes in
     record {
       lines = is.more;
       rest = joined is.left tail;
-      cut = sym (joined_lines bytes) ∙ ap (λ ts. joined ts tail) is.texts ∙ joined-append (map line_written is.more) is.left tail ∙ joined_forms is.more (joined is.left tail);
+      cut = sym (joined_lines bytes) ∙ ap (λ ts. joined ts tail) is.texts ∙ joined-append _ _ tail ∙ joined_forms _ _;
       faultless = is.follow;
       counted = is.counted;
-      here = front_fault (names_behind names is.more) is.more tail is.left stop.fault lack.tail (left_lack (map line_written is.more) is.left (subst AllLack is.texts lack.ended)) is.here;
+      here = front_fault _ _ tail _ _ lack.tail (left_lack _ _ (subst AllLack is.texts lack.ended)) is.here;
     }
 
 further_end : (more : List LineForm) (left : Texts) (tail : List ℕ) → has_no_line left tail ≡ false → has_no_line (map line_written more ++ left) tail ≡ false
@@ -413,7 +412,7 @@ further_end (line ∷ more) left tail h = refl
 
 -- lines in a row are read, where more follows them
 run_on : (names : Texts) (before more : List LineForm) (left : Texts) (tail : List ℕ) → FollowOn names before more → has_no_line left tail ≡ false → text_on names before (map line_written more ++ left) tail ≡ text_on (names_behind names more) (before ++ more) left tail
-run_on names before [] left tail follow further = ap (λ b. text_on names b left tail) (sym (append-nil before))
+run_on names before [] left tail follow further = ap (λ b. text_on names b left tail) (sym (append-nil _))
 run_on names before (line ∷ more) left tail follow further =
     let others = map line_written more ++ left in
     ap (λ t. cond {A = Read} (t && not (bytes_eq (line_written line) (codes "end"))) (stop_at (length before) faults.Syntax) (go_on (length before) (line_step names before (line_written line)) (λ n r. cond t (Ok (n, r)) (text_on n r others tail)))) (further_end more left tail further)
@@ -432,8 +431,7 @@ module _ (names : Texts) (forms : List LineForm) (bytes : List ℕ) where
   unended_again : (rest : List ℕ) → bytes ≡ lines_written forms ++ rest → AreModuleLines names forms → lacks 10 rest ≡ true → (rest ≡ [] → forms ≡ []) → bytes_on names [] bytes ≡ stop_at (length forms) faults.Syntax
   unended_again [] cut follow lacking opens =
       let none = opens refl in
-      let empty : bytes ≡ [] = cut ∙ ap (λ fs. lines_written fs ++ []) none in
-      ap (bytes_on names []) empty ∙ ap (λ (fs : List LineForm). stop_at (length fs) faults.Syntax) (sym none)
+      ap (bytes_on names []) (cut ∙ ap (λ fs. lines_written fs ++ []) none) ∙ ap (λ (fs : List LineForm). stop_at (length fs) faults.Syntax) (sym none)
   unended_again (b ∷ rest) cut follow lacking opens =
       let tail = lines_of_tail (b ∷ rest) lacking in
       run_behind (b ∷ rest) cut follow (ap (λ (w : Lines). has_no_line w.ended w.tail) tail)

@@ -9,7 +9,7 @@ use Rattle.mod_text.specs.ModuleLine.{is_term_form, is_row_form}
 use Rattle.term_core.specs.Faults.{IsTextOf}
 use Rattle.term_core.specs.PlainTerm.{TermOf, RowOf, integer_leaf, atom_leaf, tuple_of, list_of, no_terms, term_then, term_words, PlainTerm}
 use Rattle.term_core.specs.TermForms.{tree_of, IsFormOf, is_in_brackets, is_wide_text, text_words, term_atoms, term_in}
-use Rattle.term_core.specs.Written.{WrittenTerm, written, HasLeafTexts, IsTermInteger, is_term_integer, integer_of, outside_of}
+use Rattle.term_core.specs.Written.{WrittenTerm, written, HasLeafTexts, IsTermInteger, is_term_integer, integer_of}
 use Rattle.term_core.specs.declared.term.Term.TheVariants.{Int}
 use Rattle.mod_core.specs.declared.code.Operand.TheVariants.{Const}
 use Rattle.term_core.proofs.Ranges.{fits_of_none}
@@ -30,7 +30,7 @@ mutual
 
   row_texts : (row : RowOf (List ℕ) (List ℕ)) → is_row_form row ≡ true → RowHasLeafTexts row
   row_texts no_terms h = tt
-  row_texts (term_then t row) h = let p = and_parts (is_term_form t) (is_row_form row) h in (leaf_texts t p.0, row_texts row p.1)
+  row_texts (term_then t row) h = let p = and_parts _ _ h in (leaf_texts t p.0, row_texts row p.1)
 
 -- and what has them is a form
 mutual
@@ -42,7 +42,7 @@ mutual
 
   row_is : (row : RowOf (List ℕ) (List ℕ)) → RowHasLeafTexts row → is_row_form row ≡ true
   row_is no_terms h = refl
-  row_is (term_then t row) h = and_from (is_term_form t) (is_row_form row) (sound_form t h.0) (row_is row h.1)
+  row_is (term_then t row) h = and_from _ _ (sound_form t h.0) (row_is row h.1)
 
 -- the text of a form
 pub text_of_form : (t : WrittenTerm) → is_term_form t ≡ true → IsTextOf (written t) t
@@ -50,11 +50,11 @@ text_of_form t h = record { whole = refl; leaves = leaf_texts t h }
 
 -- is a term's
 pub written_is_text : (t : WrittenTerm) → is_term_form t ≡ true → is_term_text (written t) ≡ true
-written_is_text t h = is_term_text-form (written t) t (text_of_form t h)
+written_is_text t h = is_term_text-form _ t (text_of_form t h)
 
 -- what is no term's byte stands in no form's text
 pub term_lacks : (byte : ℕ) (t : WrittenTerm) → is_term_byte byte ≡ false → is_term_form t ≡ true → lacks byte (written t) ≡ true
-term_lacks byte t apart h = lacks-all is_term_byte byte (written t) apart (term_bytes-written t (leaf_texts t h))
+term_lacks byte t apart h = lacks-all _ byte _ apart (term_bytes-written t (leaf_texts t h))
 
 -- a form is no leaf that was kept of another text
 pub sound_term : (t : WrittenTerm) → is_term_form t ≡ true → is_sound_operand (constant t) ≡ true
@@ -72,11 +72,11 @@ module _ (text : List ℕ) where
   -- of any other, the text
   left_as : is_term_text text ≡ false → term_read text ≡ integer_leaf text
   unfolding term_read
-  left_as h = failed (is_term_text text) (tree_of text) (integer_leaf text) h
+  left_as h = failed _ _ _ h
 
   -- which is no integer's
   no_integer_left : is_term_text text ≡ false → is_integer_text text ≡ false
-  no_integer_left h = false_from_ne_true (is_integer_text text) (λ is. let yes = is_term_text-form text (integer_leaf text) (record { whole = refl; leaves = is }) in absurd (let no = sym h ∙ yes in cc))
+  no_integer_left h = false_from_ne_true _ (λ is. let yes = is_term_text-form text (integer_leaf text) (record { whole = refl; leaves = is }) in absurd (let no = sym h ∙ yes in cc))
 
   read_is : is_term_text text ≡ true → IsFormOf text (term_read text)
   read_is h = subst (IsFormOf text) (sym (read_as h)) (tree_is text h)
@@ -87,15 +87,15 @@ module _ (text : List ℕ) where
   text_by false h = sym (ap written (left_as h))
 
   pub text_kept : text ≡ written (term_read text)
-  text_kept = text_by (is_term_text text) refl
+  text_kept = text_by _ refl
 
   sound_by : (t : Bool) → is_term_text text ≡ t → is_sound_operand (constant (term_read text)) ≡ t
-  sound_by true h = sound_term (term_read text) (sound_form (term_read text) (read_is h).is_text.leaves)
+  sound_by true h = sound_term (term_read text) (sound_form _ (read_is h).is_text.leaves)
   sound_by false h = ap (λ t. is_sound_operand (constant t)) (left_as h) ∙ no_integer_left h
 
   -- whether it is a term's
   pub sound_is : is_term_text text ≡ is_sound_operand (constant (term_read text))
-  sound_is = sym (sound_by (is_term_text text) refl)
+  sound_is = sym (sound_by _ refl)
 
   form_by : (t : Bool) → is_term_text text ≡ t → is_term_form (term_read text) ≡ true → t ≡ true
   form_by true h form = refl
@@ -107,11 +107,11 @@ module _ (text : List ℕ) where
 
   -- a term's text is kept as a form
   pub kept_form : is_term_text text ≡ true → is_term_form (term_read text) ≡ true
-  kept_form h = sound_form (term_read text) (read_is h).is_text.leaves
+  kept_form h = sound_form _ (read_is h).is_text.leaves
 
 -- the text of a form is kept as that form
 pub read_again : (t : WrittenTerm) → is_term_form t ≡ true → term_read (written t) ≡ t
-read_again t h = read_as (written t) (written_is_text t h) ∙ (form_is (written t) t (text_of_form t h)).tree
+read_again t h = read_as _ (written_is_text t h) ∙ (form_is _ t (text_of_form t h)).tree
 
 -- ---- the form of an integer that is kept by its text
 
@@ -122,7 +122,7 @@ module _ (text : List ℕ) where
 
   no_integer_is : is_integer_text text ≡ false → integer_form text ≡ register []
   unfolding integer_form
-  no_integer_is h = failed (is_integer_text text) (constant (integer_leaf text)) (register []) h
+  no_integer_is h = failed _ _ _ h
 
   integer_by : (t : Bool) → is_integer_text text ≡ t → is_operand_form (integer_form text) ≡ true → t ≡ true
   integer_by true h form = refl
@@ -130,7 +130,7 @@ module _ (text : List ℕ) where
 
   -- what is an operand is an integer's text
   pub integer_if : is_operand_form (integer_form text) ≡ true → is_integer_text text ≡ true
-  integer_if form = integer_by (is_integer_text text) refl form
+  integer_if form = integer_by _ refl form
 
   either_by : (P : OperandForm → Type 0) (t : Bool) → is_integer_text text ≡ t → (is_integer_text text ≡ true → P (constant (integer_leaf text))) → P (register []) → P (integer_form text)
   either_by P true h one other = subst P (sym (integer_is h)) (one h)
@@ -138,28 +138,28 @@ module _ (text : List ℕ) where
 
   -- it asks for no look
   pub sound_integer : is_sound_operand (integer_form text) ≡ true
-  sound_integer = either_by (λ o. is_sound_operand o ≡ true) (is_integer_text text) refl (λ h. h) refl
+  sound_integer = either_by (λ o. is_sound_operand o ≡ true) _ refl (λ h. h) refl
 
   -- it is no register over 15
   pub low_integer : has_high_operand (integer_form text) ≡ false
-  low_integer = either_by (λ o. has_high_operand o ≡ false) (is_integer_text text) refl (λ h. refl) refl
+  low_integer = either_by (λ o. has_high_operand o ≡ false) _ refl (λ h. refl) refl
 
   -- it is short
   pub short_integer : is_long_operand (integer_form text) ≡ false
-  short_integer = either_by (λ o. is_long_operand o ≡ false) (is_integer_text text) refl (λ h. refl) refl
+  short_integer = either_by (λ o. is_long_operand o ≡ false) _ refl (λ h. refl) refl
 
   -- it names no atom
   pub integer_atoms : operand_atoms (integer_form text) ≡ []
-  integer_atoms = either_by (λ o. operand_atoms o ≡ []) (is_integer_text text) refl (λ h. refl) refl
+  integer_atoms = either_by (λ o. operand_atoms o ≡ []) _ refl (λ h. refl) refl
 
   -- it has no image behind the code
   pub integer_words : operand_form_words (integer_form text) ≡ 0
-  integer_words = either_by (λ o. operand_form_words o ≡ 0) (is_integer_text text) refl (λ h. refl) refl
+  integer_words = either_by (λ o. operand_form_words o ≡ 0) _ refl (λ h. refl) refl
 
   module _ (h : is_operand_form (integer_form text) ≡ true) where
     -- it is wide where its integer is no term's
     pub wide_integer : not (is_term_integer (integer_of text)) ≡ is_wide_operand (integer_form text)
-    wide_integer = wide_by (is_term_integer (integer_of text)) ∙ sym (ap is_wide_operand (integer_is (integer_if h)))
+    wide_integer = wide_by _ ∙ sym (ap is_wide_operand (integer_is (integer_if h)))
       where
         wide_by : (b : Bool) → not b ≡ is_some (cond {A = Option ℕ} b None (Some 0))
         wide_by true = refl
@@ -167,9 +167,7 @@ module _ (text : List ℕ) where
 
     -- else it is a term's
     pub narrow_integer : is_wide_operand (integer_form text) ≡ false → IsTermInteger (integer_of text)
-    narrow_integer narrow =
-        let wide : is_wide_operand (constant (integer_leaf text)) ≡ false = sym (ap is_wide_operand (integer_is (integer_if h))) ∙ narrow in
-        fits_of_none (integer_leaf text) (none_by (outside_of (integer_leaf text)) wide)
+    narrow_integer narrow = fits_of_none (integer_leaf text) (none_by _ (sym (ap is_wide_operand (integer_is (integer_if h))) ∙ narrow))
 
     pub integer_says : (names : Texts) → operand_in names (integer_form text) ≡ Const (Int (integer_of text))
     integer_says names = ap (operand_in names) (integer_is (integer_if h))
@@ -201,13 +199,13 @@ module _ (text : List ℕ) where
   complex_by : (b t : Bool) → is_bracketed text ≡ b → is_term_text text ≡ t → is_operand_form (complex_form text) ≡ true → IsComplex text
   complex_by true t hb ht h =
       let form = form_kept text (sym (ap is_operand_form (complex_is hb)) ∙ h) in
-      record { is = complex_is hb; form = form; brackets = sym (is_bracketed-form text (term_read text) form.is_text) ∙ hb }
+      record { is = complex_is hb; form = form; brackets = sym (is_bracketed-form text _ form.is_text) ∙ hb }
   complex_by false true hb ht h = absurd (let no : is_operand_form (register []) ≡ true = sym (ap is_operand_form (other_is hb true ht)) ∙ h in cc)
   complex_by false false hb ht h = absurd (let yes = form_by text false ht (sym (ap is_operand_form (other_is hb false ht)) ∙ h) in cc)
 
   -- what is an operand is the text of a tuple or a list
   pub complex_if : is_operand_form (complex_form text) ≡ true → IsComplex text
-  complex_if h = complex_by (is_bracketed text) (is_term_text text) refl refl h
+  complex_if h = complex_by _ _ refl refl h
 
   sound_complex_by : (b t : Bool) → is_bracketed text ≡ b → is_term_text text ≡ t → t ≡ is_sound_operand (complex_form text)
   sound_complex_by true t hb ht = sym ht ∙ sound_is text ∙ sym (ap is_sound_operand (complex_is hb))
@@ -216,7 +214,7 @@ module _ (text : List ℕ) where
 
   -- whether it is a term's
   pub sound_complex : is_term_text text ≡ is_sound_operand (complex_form text)
-  sound_complex = sound_complex_by (is_bracketed text) (is_term_text text) refl refl
+  sound_complex = sound_complex_by _ _ refl refl
 
   low_complex_by : (b t : Bool) → is_bracketed text ≡ b → is_term_text text ≡ t → has_high_operand (complex_form text) ≡ false
   low_complex_by true t hb ht = ap has_high_operand (complex_is hb)
@@ -225,7 +223,7 @@ module _ (text : List ℕ) where
 
   -- it is no register over 15
   pub low_complex : has_high_operand (complex_form text) ≡ false
-  low_complex = low_complex_by (is_bracketed text) (is_term_text text) refl refl
+  low_complex = low_complex_by _ _ refl refl
 
   module _ (h : is_operand_form (complex_form text) ≡ true) where
     pub wide_is : is_wide_text text ≡ is_wide_operand (complex_form text)
@@ -238,13 +236,13 @@ module _ (text : List ℕ) where
     atoms_are = let c = complex_if h in c.form.atoms ∙ sym (ap operand_atoms c.is)
 
     pub words_are : text_words text ≡ operand_form_words (complex_form text)
-    words_are = let c = complex_if h in c.form.words ∙ sym (words_in (term_read text) c.brackets) ∙ sym (ap operand_form_words c.is)
+    words_are = let c = complex_if h in c.form.words ∙ sym (words_in _ c.brackets) ∙ sym (ap operand_form_words c.is)
 
     pub complex_narrow : is_wide_operand (complex_form text) ≡ false → is_wide_text text ≡ false
     complex_narrow narrow = wide_is ∙ narrow
 
     pub complex_text : is_term_text text ≡ true
-    complex_text = is_term_text-form text (term_read text) (complex_if h).form.is_text
+    complex_text = is_term_text-form text _ (complex_if h).form.is_text
 
     pub complex_says : (names : Texts) → operand_in names (complex_form text) ≡ Const (term_of (term_in names text))
     complex_says names = let c = complex_if h in ap (operand_in names) c.is ∙ ap (λ (t : PlainTerm). Const (term_of t)) (sym (c.form.value names))

@@ -8,7 +8,7 @@ use Rattle.report_text.proofs.Forms.{numbered, text_ended, on_from, lines_on, by
 use Rattle.report_text.specs.declared.fault.ReportFault.TheVariants as faults
 
 on_cut : (names : Texts) (s : ReportState) (number : ℕ) (rest line behind : List ℕ) → cut_at 10 rest ≡ Some (line, behind) → bytes_on names s number rest ≡ on_from number (line_taken names s line) (λ next. bytes_on names next (number + 1) behind)
-on_cut names s number rest line behind e = ap (λ (w : Lines). lines_on names s number w.ended w.tail) (lines_of_cut rest (line, behind) e)
+on_cut names s number rest line behind e = ap (λ (w : Lines). lines_on names s number w.ended w.tail) (lines_of_cut rest _ e)
 
 numbered_ok : (number : ℕ) (o : Option ReportState) (next : ReportState) → numbered number o ≡ Ok next → o ≡ Some next
 numbered_ok number None next e = absurd cc
@@ -37,7 +37,7 @@ module _ (names : Texts) (s : ReportState) (number : ℕ) (rest : List ℕ) wher
 
 -- a line that is neither the first nor the last of a report
 pub longer : (names : Texts) (text : List ℕ) (r : Result ReportLine LineFault) → bytes_eq text (codes "beam report 1") ≡ false → bytes_eq text (codes "end report") ≡ false → ReadsWord (λ line. line) r (longer_line names text) → ReadsWord (λ line. line) r (line_reading names text)
-longer names text r h k read = subst (λ o. ReadsWord (λ line. line) r o) (sym (failed (bytes_eq text (codes "beam report 1")) _ _ h ∙ failed (bytes_eq text (codes "end report")) _ (longer_line names text) k)) read
+longer names text r h k read = subst (λ o. ReadsWord (λ line. line) r o) (sym (failed _ _ _ h ∙ failed _ _ _ k)) read
 
 -- the same is given
 pub given : (r whole end : Result RunLog ReportFault) → whole ≡ end → Gives (λ log. log) r end → Gives (λ log. log) r whole

@@ -14,7 +14,7 @@ use Rattle.report_text.proofs.Logs.{IsTermOf, mfa_text, plain_text, call_text, w
 use Rattle.report_text.proofs.Logs.{IsWide, IsNamed, IsFunctionOf, IsCallOf, IsReferenceOf, IsCommandOf, IsReplyOf, IsWhoOf, IsLineOf, IsEndOf}
 use Rattle.report_text.proofs.Logs.{limit_text, published_text, IsLingerOf, Agrees, IsEntryOf}
 use Rattle.report_text.proofs.Forms.{shown_line_text, atom_reading, atom_command, on_atom_reading}
-use Rattle.report_text.proofs.Forms.{worded_command, command_reading, cut_last, sided, ended_reading}
+use Rattle.report_text.proofs.Forms.{worded_command, command_reading, cut_last, sided}
 use Rattle.report_text.proofs.TermLaws.{atom_is_text, narrow_wide, atom, number, version, atom_is, named_lacks, decimal_lacks, digit_apart, narrow}
 use Rattle.report_text.proofs.TermLaws.{cut_last_here, cut_last_is, text_back, term, text_of_it, function, function_lacks, call, call_of}
 use Rattle.mod_text.proofs.Readers.{Reader, fitting, pair, made, made_again, row, name_is, word_is}
@@ -43,7 +43,7 @@ left_true false b h = absurd cc
 
 weaker : (p q : ℕ → Bool) → ((b : ℕ) → p b ≡ true → q b ≡ true) → (text : List ℕ) → list_all p text ≡ true → list_all q text ≡ true
 weaker p q h [] all = refl
-weaker p q h (b ∷ text) all = let parts = and_parts (p b) (list_all p text) all in and_from (q b) (list_all q text) (h b parts.0) (weaker p q h text parts.1)
+weaker p q h (b ∷ text) all = let parts = and_parts (p b) (list_all p text) all in and_from _ _ (h b parts.0) (weaker p q h text parts.1)
 
 pub of_terms : (text : List ℕ) → list_all is_term_byte text ≡ true → IsPlainText text
 of_terms text h = record { all = weaker is_term_byte is_command_byte (λ b k. left_true (is_term_byte b) _ k) text h }
@@ -52,10 +52,10 @@ pub of_names : (text : List ℕ) → list_all is_name_byte text ≡ true → IsP
 of_names text h = of_terms text (weaker is_name_byte is_term_byte (λ b k. left_true (is_name_byte b) _ k) text h)
 
 pub both : (a b : List ℕ) → IsPlainText a → IsPlainText b → IsPlainText (a ++ b)
-both a b h k = record { all = list_all-append is_command_byte a b ∙ and_from (list_all is_command_byte a) (list_all is_command_byte b) h.all k.all }
+both a b h k = record { all = list_all-append is_command_byte a b ∙ and_from _ _ h.all k.all }
 
 pub one_more : (c : ℕ) (b : List ℕ) → is_command_byte c ≡ true → IsPlainText b → IsPlainText (c ∷ b)
-one_more c b h k = record { all = and_from (is_command_byte c) (list_all is_command_byte b) h k.all }
+one_more c b h k = record { all = and_from _ _ h k.all }
 
 pub atom_plain : (names : Texts) (a : AtomId) → IsNames names → IsNamed names a → IsPlainText (atom_text names a.0)
 atom_plain names a sound h = of_names (atom_text names a.0) (name_bytes (atom_text names a.0) (atom_is_text names a sound h))
@@ -186,7 +186,7 @@ pub on_again : (on : Bool) → Unit {0} → switch_reading (switch_text on) ≡ 
 on_again on h = ap switch_reading (sym (same_switch on)) ∙ switch_again on
 
 abbrev pub breakpoint : (names : Texts) → IsNames names → Reader (Mfa × Bool)
-breakpoint names sound = pair 32 (function names sound) (fitting switch_text (λ _. Unit {0}) switch_reading on_is on_again) (λ to h. function_lacks 32 names to sound refl refl refl h)
+breakpoint names sound = pair 32 (function names sound) (fitting _ (λ _. Unit {0}) _ on_is on_again) (λ to h. function_lacks 32 names to sound refl refl refl h)
 
 -- ---- commands
 
@@ -196,7 +196,7 @@ pub record IsBare (names : Texts) (c : Cmd) : Type 0 where
   pub bare_is : bare c ≡ c
 
 load_shape : (names : Texts) (refs : List ModRef) → 0 < length refs → codes "load" ++ 32 ∷ join_with_byte 32 (map (reference_text names) refs) ≡ cmd_text names (Load refs)
-load_shape names [] h = absurd (omega (arith, h))
+load_shape names [] h = absurd (omega arith)
 load_shape names (r ∷ rs) h = ap (λ (t : List ℕ). codes "load" ++ t) (join-flat (reference_text names) 32 r rs)
 
 abbrev made_put : AtomId × PlainTerm → Cmd
@@ -204,7 +204,7 @@ made_put p = Put p.0 (term_of p.1)
 
 on_atom_is : (names : Texts) (word text : List ℕ) (c : Cmd) → on_atom_reading names word text ≡ Some c → IsItem (cmd_text names) (IsBare names) (word ++ 32 ∷ text) c
 on_atom_is names word text c e =
-    let m = bind_some (atom_reading names text) (atom_command word) c e in
+    let m = bind_some _ (atom_command word) c e in
     let is = atom_is names text m.0 m.1 in
     let around : List ℕ → List ℕ = λ w. w ++ 32 ∷ text in
     name_is around (cmd_text names) (IsBare names) (codes "delete") (Delete m.0) (ap (λ (t : List ℕ). codes "delete " ++ t) is.text_is) (record { command = is.fits; bare_is = refl }) word _ c m.2
@@ -250,7 +250,7 @@ module _ (names : Texts) where
   bare_again sound c h = command_again sound c h.command ∙ ap (λ d. some d) h.bare_is
 
   abbrev pub command : IsNames names → Reader Cmd
-  command sound = fitting (cmd_text names) (IsBare names) (command_reading names) (command_is sound) (bare_again sound)
+  command sound = fitting _ (IsBare names) _ (command_is sound) (bare_again sound)
 
 -- ---- entries of a report's journal, and their replies
 
@@ -311,7 +311,7 @@ limit_again Instances h = refl
 limit_again l h = refl
 
 abbrev pub limit : Reader Limit
-limit = fitting limit_text (λ _. Unit {0}) limit_reading limit_is limit_again
+limit = fitting _ (λ _. Unit {0}) _ limit_is limit_again
 
 -- ---- replies
 
@@ -338,7 +338,7 @@ module _ (names : Texts) (sound : IsNames names) where
   reply_again r h = refl
 
   abbrev pub reply : Reader Reply
-  reply = fitting (reply_text names) (IsReplyOf names) (reply_reading names) reply_is reply_again
+  reply = fitting _ (IsReplyOf names) _ reply_is reply_again
 
 -- ---- what was published
 
@@ -352,7 +352,7 @@ published_again None h = refl
 published_again (Some n) h = made_again (begun 64 number) (λ k. some k) n h
 
 abbrev pub published : Reader (Option ℕ)
-published = fitting published_text (λ q. IfSome q IsWide) published_reading published_is published_again
+published = fitting _ (λ q. IfSome q IsWide) _ published_is published_again
 
 -- ---- a command and its reply
 
@@ -417,7 +417,7 @@ module _ (names : Texts) (sound : IsNames names) where
   front_is text c e = closed_by 32 (command names sound) (cut_last 32 text) text (cut_last_is 32 text) c e
 
   pub front_again : (c : Cmd) → IsBare names c → command_front names (cmd_text names c ++ 32 ∷ []) ≡ Some c
-  front_again c h = bind_at (cut_last 32 (cmd_text names c ++ 32 ∷ [])) (ended_reading (command_reading names)) (cmd_text names c, []) (Some c) (cut_last_here 32 (cmd_text names c) [] refl) (bare_again names sound c h)
+  front_again c h = bind_at _ _ _ _ (cut_last_here 32 (cmd_text names c) [] refl) (bare_again names sound c h)
 
   pub front_lacks : (c : Cmd) → IsBare names c → lacks 61 (cmd_text names c ++ 32 ∷ []) ≡ true
   front_lacks c h = lacks-append 61 (cmd_text names c) (32 ∷ []) (lacks-all is_command_byte 61 (cmd_text names c) refl (command_plain names sound c h.command).all) refl
@@ -425,7 +425,7 @@ module _ (names : Texts) (sound : IsNames names) where
   -- ---- an entry
 
   abbrev pub entry_made : Reader Made
-  entry_made = made (pair 61 (fitting (λ (c : Cmd). cmd_text names c ++ 32 ∷ []) (IsBare names) (command_front names) front_is front_again) (begun 32 (answer names sound)) front_lacks)
+  entry_made = made (pair 61 (fitting (λ (c : Cmd). cmd_text names c ++ 32 ∷ []) (IsBare names) _ front_is front_again) (begun 32 (answer names sound)) front_lacks)
       (λ p. record { cmd = p.0; answer = p.1 }) (λ m. (m.cmd, m.answer)) (λ m. (cmd_text names m.cmd ++ 32 ∷ []) ++ 61 ∷ (32 ∷ (reply_text names m.answer.reply ++ 32 ∷ published_text m.answer.published))) (λ m. IsBare names m.cmd × IsAnswer names m.answer)
       (λ m. refl) (λ p h. refl) (λ m h. refl) (λ p h. h) (λ m h. h)
 

@@ -3,7 +3,7 @@ use Rattle.report_text.proofs.Common.{◌≡◌, ℕ, true, false, ◌==◌, Lis
 use Rattle.report_text.proofs.Common.{IfSome, codes, refl, sym, ap, ◌∙◌, subst, append_assoc, Texts}
 use Rattle.report_text.proofs.Types.{Mfa, Line, End, Entry, Call, ReportLine}
 use Rattle.report_text.proofs.Texts.{IsNames, plain, term_of, PlainTerm, plain-term_of, term_of-plain, ◌>>=◌, some, bind_some, lacks, lacks-all}
-use Rattle.report_text.proofs.Texts.{lacks-append, lacks-cons, IsItem, number_reading}
+use Rattle.report_text.proofs.Texts.{lacks-append, lacks-cons, IsItem}
 use Rattle.report_text.proofs.Logs.{IsTermOf, mfa_text, call_text, who_text, cmd_text, reply_text}
 use Rattle.report_text.proofs.Logs.{published_text, end_text, IsWide, IsLineOf, IsEndOf, IsEntryOf}
 use Rattle.report_text.proofs.Forms.{line_text, IsReportLine, shown_line_text, worded_end, end_reading}
@@ -38,7 +38,7 @@ module _ (names : Texts) (sound : IsNames names) where
   end_again e h = refl
 
   abbrev pub end_reader : Reader End
-  end_reader = fitting (end_text names) (IsEndOf names) (end_reading names) end_is end_again
+  end_reader = fitting _ (IsEndOf names) _ end_is end_again
 
 -- ---- lines, grouped as they are cut
 
@@ -75,7 +75,7 @@ made_trace c = lines.Shown (shown.Trace c.target c.args)
 module _ (names : Texts) where
   number_line_is : (word text : List ℕ) (l : ReportLine) → number_line word text ≡ Some l → IsItem (line_text names) (IsReportLine names) (word ++ 32 ∷ text) l
   number_line_is word text l h =
-      let m = bind_some (number_reading text) (numbered_line word) l h in
+      let m = bind_some _ (numbered_line word) l h in
       let is = number_is text m.0 m.1 in
       let around : List ℕ → List ℕ = λ w. w ++ 32 ∷ text in
       name_is around (line_text names) (IsReportLine names) (codes "generations") (lines.Generations m.0) (ap (λ (t : List ℕ). codes "generations " ++ t) is.text_is) is.fits word _ l m.2

@@ -22,5 +22,5 @@ many_parts count more all e h is = grind (arith, nat_tests)
 
 -- what is read of few parts is few
 pub few_read : (names : List (List ℕ)) (text : List ℕ) (r : Result (List PlainTerm) LineFault) → nat_le (length (parts_of_terms text)) 15 ≡ true → ReadsWord (λ terms. terms) r (each_reading (plain_reading names) (parts_of_terms text)) → IfOk r (λ terms. length terms ≤ 15)
-few_read names text (Ok terms) few read = let count = each_count (plain_reading names) (parts_of_terms text) terms read in let most = few_is (length (parts_of_terms text)) few in omega (arith, count, most)
+few_read names text (Ok terms) few read = let count = each_count (plain_reading names) (parts_of_terms text) terms read in let most = few_is (length (parts_of_terms text)) few in omega arith
 few_read names text (Err fault) few read = tt

@@ -136,17 +136,17 @@ with_observers_more log more l = ap (with_processes log) (group_behind (observer
 
 -- one more process, or observer
 processes_lines-more : (number : ℕ) (ps : List ProcessLog) (p : ProcessLog) (more : List ReportLine) (last : ℕ) → last ≡ number + length ps → processes_lines number (ps ++ p ∷ []) ++ more ≡ processes_lines number ps ++ (process_lines last p ++ more)
-processes_lines-more number [] p more last e = ap (λ ls. ls ++ more) (append-nil (process_lines number p)) ∙ ap (λ n. process_lines n p ++ more) (omega (arith, e))
+processes_lines-more number [] p more last e = ap (λ ls. ls ++ more) (append-nil (process_lines number p)) ∙ ap (λ n. process_lines n p ++ more) (omega arith)
 processes_lines-more number (q ∷ ps) p more last e =
     append_assoc (process_lines number q) (processes_lines (number + 1) (ps ++ p ∷ [])) more
-    ∙ ap (λ ls. process_lines number q ++ ls) (processes_lines-more (number + 1) ps p more last (omega (arith, e)))
+    ∙ ap (λ ls. process_lines number q ++ ls) (processes_lines-more (number + 1) ps p more last (omega arith))
     ∙ sym (append_assoc (process_lines number q) (processes_lines (number + 1) ps) (process_lines last p ++ more))
 
 observers_lines-more : (number : ℕ) (obs : List (List Snapshot)) (shots : List Snapshot) (more : List ReportLine) (last : ℕ) → last ≡ number + length obs → observers_lines number (obs ++ shots ∷ []) ++ more ≡ observers_lines number obs ++ (observer_lines last shots ++ more)
-observers_lines-more number [] shots more last e = ap (λ ls. ls ++ more) (append-nil (observer_lines number shots)) ∙ ap (λ n. observer_lines n shots ++ more) (omega (arith, e))
+observers_lines-more number [] shots more last e = ap (λ ls. ls ++ more) (append-nil (observer_lines number shots)) ∙ ap (λ n. observer_lines n shots ++ more) (omega arith)
 observers_lines-more number (o ∷ obs) shots more last e =
     append_assoc (observer_lines number o) (observers_lines (number + 1) (obs ++ shots ∷ [])) more
-    ∙ ap (λ ls. observer_lines number o ++ ls) (observers_lines-more (number + 1) obs shots more last (omega (arith, e)))
+    ∙ ap (λ ls. observer_lines number o ++ ls) (observers_lines-more (number + 1) obs shots more last (omega arith))
     ∙ sym (append_assoc (observer_lines number o) (observers_lines (number + 1) obs) (observer_lines last shots ++ more))
 
 -- the last of what is flat grows
@@ -162,7 +162,7 @@ flat_more f xs x l e = flat_map-append f xs (x ∷ []) ∙ ap (λ ls. flat_map f
 -- ---- counts
 
 count_sum : (all front one by_front by_one : ℕ) → all ≡ by_front + by_one → front ≡ by_front → by_one ≡ one + 0 → all ≡ front + one
-count_sum all front one by_front by_one e f g = omega (arith, e, f, g)
+count_sum all front one by_front by_one e f g = omega arith
 
 less_one : (left more : ℕ) (t : Bool) → (left == 0) ≡ t → cond t None (Some (left - 1)) ≡ Some more → 1 + more ≡ left
 less_one left more true e h = absurd cc
@@ -170,10 +170,8 @@ less_one left more false e h = let same = some_is (left - 1) more h in grind (ar
 
 count_more : (es : List Entry) (e : Entry) → published_count (es ++ e ∷ []) ≡ published_count es + publishes e
 count_more es e =
-    let one = sum_by-cons publishes e [] in
     let all = sum-map publishes (es ++ e ∷ []) ∙ sum_by-append publishes es (e ∷ []) in
-    let front = sum-map publishes es in
-    count_sum (published_count (es ++ e ∷ [])) (published_count es) (publishes e) _ _ all front one
+    count_sum (published_count (es ++ e ∷ [])) (published_count es) (publishes e) _ _ all (sum-map publishes es) (sum_by-cons publishes e [])
 
 -- ---- the first two lines
 
@@ -189,7 +187,7 @@ no_count = refl
 
 count_empty : (names : Texts) (count : ℕ) → IsWide count → IsTaken names (at empty_log Count) (lines.Generations count) (at empty_log (Entries count))
 count_empty names count wide = record {
-  stands = record { well_formed = empty_good names; count = omega (arith, wide, no_count); no_processes = refl; no_observers = refl };
+  stands = record { well_formed = empty_good names; count = omega (arith, no_count); no_processes = refl; no_observers = refl };
   lines_are = ap (λ n. headed n []) (omega (arith, no_count));
 }
 
@@ -226,16 +224,16 @@ module _ (names : Texts) (log : RunLog) where
       record {
         stands = record {
           well_formed = record { journal = all_more (IsEntryOf names) log.journal e h.well_formed.journal fits; processes = h.well_formed.processes; observers = h.well_formed.observers };
-          count = omega (arith, grown, count, h.count);
+          count = omega (arith, h.count);
           no_processes = h.no_processes;
           no_observers = h.no_observers;
         };
-        lines_are = ap (λ n. headed n (entry_lines (log.journal ++ e ∷ []))) (omega (arith, grown, count)) ∙ ap (λ ls. headed (published_count log.journal + left) ls) (map-append (λ e. lines.Entry e) log.journal (e ∷ []));
+        lines_are = ap (λ n. headed n (entry_lines (log.journal ++ e ∷ []))) (omega arith) ∙ ap (λ ls. headed (published_count log.journal + left) ls) (map-append (λ e. lines.Entry e) log.journal (e ∷ []));
       }
 
   entry_is : (stage : Stage) (e : Entry) (next : ReportState) → StageStands names log stage → IsEntryOf names e → entry_taken log stage e ≡ Some next → IsTaken names (at log stage) (lines.Entry e) next
   entry_is (Entries left) e next h fits k =
-      let m = bind_some (count_after left e.published) (λ more. Some (at (with_entry log e) (Entries more))) next k in
+      let m = bind_some _ (λ more. Some (at (with_entry log e) (Entries more))) next k in
       subst (IsTaken names (at log (Entries left)) (lines.Entry e)) (some_is (at (with_entry log e) (Entries m.0)) next m.2) (entry_more left m.0 e h fits (after_is left e e.published m.0 refl m.1))
   entry_is stage e next h fits k = no_state next k
 
@@ -246,11 +244,11 @@ module _ (names : Texts) (log : RunLog) where
       let none_seen = ap length h.no_observers in
       record {
         stands = record {
-          good = record { well_formed = h.well_formed; counted = record { generations = omega (arith, none, h.count); processes = omega (arith, no_more); observers = omega (arith, none_seen) } };
+          good = record { well_formed = h.well_formed; counted = record { generations = omega (arith, h.count); processes = omega arith; observers = omega arith } };
           no_observers = h.no_observers;
         };
         lines_are =
-            ap (λ n. headed n (entry_lines log.journal)) (omega (arith, none))
+            ap (λ n. headed n (entry_lines log.journal)) (omega arith)
             ∙ ap (λ ls. headed (published_count log.journal) ls) (sym (append-nil (entry_lines log.journal)))
             ∙ ap (λ ps. headed (published_count log.journal) (entry_lines log.journal ++ (processes_lines 0 ps ++ []))) (sym h.no_processes);
       }
@@ -266,7 +264,7 @@ module _ (names : Texts) (log : RunLog) where
       good = h.stands.good;
       no_observers = h.stands.no_observers;
       process_is = record { call = call; whole = record { turns = tt; apart = tt }; spans = tt; fin = tt };
-      room = omega (arith, wide, e);
+      room = omega arith;
       first = refl;
     };
     lines_are = ap (λ n. with_processes log (lines.Process n to args ∷ [])) (sym e) ∙ with_processes_more log [] (lines.Process number to args) ∙ ap (λ ls. ls ++ lines.Process number to args ∷ []) (sym h.lines_are);
@@ -300,7 +298,7 @@ follows_is (Some span) generation turns h =
 -- spans that are apart, with one that follows
 spans_apart : (spans : List Span) (going : Option Span) (next : Span) → IsFirst spans going → AreApart (with_going spans going) → IfSome going (λ span. span.generation ≢ next.generation) → AreApart (with_going spans going ++ next ∷ [])
 spans_apart spans None next first h k = subst (λ ss. AreApart (ss ++ next ∷ [])) (sym first) (tt, tt)
-spans_apart spans (Some span) next first h k = apart_more (spans ++ span ∷ []) next h (subst (λ o. IfSome o (λ g. g ≢ next.generation)) (sym (last_is spans span)) k)
+spans_apart spans (Some span) next first h k = apart_more _ next h (subst (λ o. IfSome o (λ g. g ≢ next.generation)) (sym (last_is spans span)) k)
 
 span_begins : (names : Texts) (log : RunLog) (process : ProcessLog) (going : Option Span) (span : Span) → span.lines ≡ [] → InProcess names log process going → IsWide span.generation → IsWide span.turns → Follows going span.generation span.turns → IsTaken names (at log (Process process going)) (lines.Span span.generation span.turns) (at log (Process (spans_closed process going) (Some span)))
 span_begins names log process going span bare h g t f =
@@ -346,7 +344,7 @@ module _ (names : Texts) (log : RunLog) where
             call = h.process_is.call;
             whole = record {
               turns = all_more (λ s. 0 < s.turns) process.spans (with_line span line) (all_front (λ s. 0 < s.turns) process.spans (span ∷ []) h.process_is.whole.turns) (all_last (λ s. 0 < s.turns) process.spans span h.process_is.whole.turns);
-              apart = apart_more process.spans (with_line span line) cut.others cut.fresh;
+              apart = apart_more _ _ cut.others cut.fresh;
             };
             spans = all_more (IsSpanOf names) process.spans (with_line span line) (all_front (IsSpanOf names) process.spans (span ∷ []) h.process_is.spans) (record { generation = was.generation; turns = was.turns; lines_are = all_more (IsLineOf names) span.lines line was.lines_are fits });
             fin = h.process_is.fin;
@@ -381,7 +379,7 @@ module _ (names : Texts) (log : RunLog) where
               processes = all_more (IsProcessOf names) log.processes p h.good.well_formed.processes (record { call = h.process_is.call; whole = h.process_is.whole; spans = h.process_is.spans; fin = fits });
               observers = h.good.well_formed.observers;
             };
-            counted = record { generations = h.good.counted.generations; processes = omega (arith, longer, h.room); observers = h.good.counted.observers };
+            counted = record { generations = h.good.counted.generations; processes = omega (arith, h.room); observers = h.good.counted.observers };
           };
           no_observers = h.no_observers;
         };
@@ -419,7 +417,7 @@ module _ (names : Texts) (log : RunLog) where
             processes = h.good.well_formed.processes;
             observers = all_more (λ ss. AllByRecursion (IsSnapshotOf names) ss) log.observers all h.good.well_formed.observers h.shots_are;
           };
-          counted = record { generations = h.good.counted.generations; processes = h.good.counted.processes; observers = omega (arith, longer, h.room) };
+          counted = record { generations = h.good.counted.generations; processes = h.good.counted.processes; observers = omega (arith, h.room) };
         };
         lines_are = ap (λ ls. with_processes log (observers_lines 0 log.observers ++ ls)) (sym (append-nil (observer_lines (length log.observers) all)))
             ∙ ap (with_processes log) (sym (observers_lines-more 0 log.observers all [] (length log.observers) (omega arith)));
@@ -435,13 +433,13 @@ module _ (names : Texts) (log : RunLog) where
 
   observer_begins : (stage : Stage) (closed : RunLog) (number : ℕ) → IsClosed names log stage closed → IsWide number → number ≡ length closed.observers → IsTaken names (at log stage) (lines.Observer number) (at closed (Observer [] None))
   observer_begins stage closed number h wide e = record {
-    stands = record { good = h.good; shots_are = tt; room = omega (arith, wide, e) };
+    stands = record { good = h.good; shots_are = tt; room = omega arith };
     lines_are = ap (λ n. with_observers closed (lines.Observer n ∷ [])) (sym e) ∙ with_observers_more closed [] (lines.Observer number) ∙ ap (λ ls. ls ++ lines.Observer number ∷ []) (sym h.lines_are);
   }
 
   observer_is : (stage : Stage) (number : ℕ) (next : ReportState) → StageStands names log stage → IsWide number → observer_taken log stage number ≡ Some next → IsTaken names (at log stage) (lines.Observer number) next
   observer_is stage number next h wide e =
-      let m = bind_some (observers_closed log stage) (λ closed. observer_behind closed number) next e in
+      let m = bind_some _ (λ closed. observer_behind closed number) next e in
       let g = guard_some (number == length m.0.observers) (at m.0 (Observer [] None)) next m.2 in
       subst (IsTaken names (at log stage) (lines.Observer number)) g.1 (observer_begins stage m.0 number (closed_is stage m.0 h m.1) wide ((Decides-eqb number (length m.0.observers)).0 g.0))
 
@@ -488,7 +486,7 @@ module _ (names : Texts) where
 
   close_is : (log : RunLog) (stage : Stage) (next : ReportState) → StageStands names log stage → close_taken log stage ≡ Some next → IsTaken names (at log stage) lines.Close next
   close_is log stage next h e =
-      let m = bind_some (observers_closed log stage) (λ closed. Some (at closed Done)) next e in
+      let m = bind_some _ (λ closed. Some (at closed Done)) next e in
       let c = closed_is names log stage m.0 h m.1 in
       subst (IsTaken names (at log stage) lines.Close) (some_is (at m.0 Done) next m.2) (record { stands = c.good; lines_are = with_observers_more m.0 [] lines.Close ∙ ap (λ ls. ls ++ lines.Close ∷ []) (sym c.lines_are) })
 
@@ -532,7 +530,7 @@ done names log h = record { log = log; good = h; rest = []; lines_are = sym (app
 by_close : (names : Texts) (log : RunLog) (stage : Stage) (closed : RunLog) → StageStands names log stage → observers_closed log stage ≡ Some closed → IsCompleted names (at log stage)
 by_close names log stage closed h e =
     let t = close_is names log stage (at closed Done) h (ap (λ (o : Option RunLog). o >>= λ c. some (at c Done)) e) in
-    by_step names (at log stage) lines.Close (at closed Done) t (done names closed t.stands)
+    by_step names _ _ (at closed Done) t (done names closed t.stands)
 
 filler : Entry
 filler = record { who = Runtime; cmd = cmds.Release 0; reply = replies.Ok; published = Some 1 }
@@ -550,7 +548,7 @@ module _ (names : Texts) where
   entries_completed log zero h = by_close names log (Entries zero) log h refl
   entries_completed log (suc left) h =
       let t = entry_more names log (suc left) left filler h (filler_fits names) (filler_count left) in
-      by_step names (at log (Entries (suc left))) (lines.Entry filler) (at (with_entry log filler) (Entries left)) t (entries_completed (with_entry log filler) left t.stands)
+      by_step names _ _ (at (with_entry log filler) (Entries left)) t (entries_completed (with_entry log filler) left t.stands)
 
   head_completed : IsCompleted names (at empty_log Head)
   head_completed = record { log = empty_log; good = record { well_formed = empty_good names; counted = record { generations = omega (arith, no_count); processes = omega arith; observers = omega arith } }; rest = log_lines empty_log; lines_are = refl }
@@ -566,7 +564,7 @@ module _ (names : Texts) where
   stage_completed log (Process process going) h =
       let t = process_ends names log process going Normal h tt in
       let next = with_process log (process_ended (spans_closed process going) Normal) in
-      by_step names (at log (Process process going)) (lines.End Normal) (at next Processes) t (by_close names next Processes next t.stands refl)
+      by_step names _ _ (at next Processes) t (by_close names next Processes next t.stands refl)
   stage_completed log (Observer shots going) h = by_close names log (Observer shots going) (shots_closed log shots going) h refl
   stage_completed log Done h = done names log h
 

@@ -24,7 +24,7 @@ use Rattle.mod_text.proofs.LineReaders.{arity_number, arity_few, version_number,
 use Rattle.mod_text.specs.ModuleLine.{is_version_text, is_arity_text}
 use Rattle.mod_text.proofs.Readers.{Reader, fitting, pair, made, closed}
 use Rattle.term_core.specs.TermForms.{is_term_text, is_wide_text, term_in, text_words, tree_of}
-use Rattle.term_core.specs.Written.{WrittenTerm, written, parted, IsTermInteger, integer_of, outside_of, IntegersFit}
+use Rattle.term_core.specs.Written.{WrittenTerm, written, parted, IsTermInteger, integer_of, IntegersFit}
 use Rattle.term_core.proofs.LeafFacts.{EachLeaf-weaker, EachLeaf-map, term_words-map}
 use Rattle.term_core.proofs.Ranges.{fits_of_none}
 use Rattle.term_core.proofs.TermForms.{printed_is, tree_is, nonempty-is_term_text}
@@ -42,7 +42,7 @@ parts_at text place h = rw (add-one, drop-cons text place 0)
 
 module _ (byte : ℕ) where
   cut_other : (b : ℕ) (bs : List ℕ) (o : Option (List ℕ × List ℕ)) → o ≡ None → (b == byte) ≡ false → cut_or byte b bs o ≡ None
-  cut_other b bs o none h = ap (cut_or byte b bs) none ∙ failed (b == byte) (some ([], bs)) None h
+  cut_other b bs o none h = ap (cut_or byte b bs) none ∙ failed _ _ None h
 
   -- what lacks the byte is not cut
   pub uncut_last : (text : List ℕ) → lacks byte text ≡ true → cut_last byte text ≡ None
@@ -61,7 +61,7 @@ module _ (byte : ℕ) where
   cut_last_step b bs (Some y) x more t e h = subst (λ (z : List ℕ × List ℕ). b ∷ bs ≡ z.0 ++ byte ∷ z.1) (some_is (with_first b y) x h) (ap (λ (l : List ℕ). b ∷ l) (more y refl))
   cut_last_step b bs None x more true e h =
       subst (λ (z : List ℕ × List ℕ). b ∷ bs ≡ z.0 ++ byte ∷ z.1) (some_is ([], bs) x (sym (passed (b == byte) (some ([], bs)) None e) ∙ h)) (ap (λ k. k ∷ bs) ((Decides-eqb b byte).0 e))
-  cut_last_step b bs None x more false e h = no_sides x (sym (failed (b == byte) (some ([], bs)) None e) ∙ h)
+  cut_last_step b bs None x more false e h = no_sides x (sym (failed _ _ None e) ∙ h)
 
   pub cut_last_is : (text : List ℕ) (x : List ℕ × List ℕ) → cut_last byte text ≡ Some x → text ≡ x.0 ++ byte ∷ x.1
   cut_last_is [] x h = absurd cc
@@ -99,7 +99,7 @@ module _ (names : Texts) where
       subst (IsItem (λ (b : AtomId). atom_text names b.0) (IsNamed names) text) m.2 (record { text_is = sym (ap (λ (o : Option (List ℕ)). unwrap_or o []) at); fits = slice_get_within names m.0 text at })
 
   abbrev pub atom : IsNames names → Reader AtomId
-  atom sound = fitting (λ (m : AtomId). atom_text names m.0) (IsNamed names) (atom_reading names) atom_is (atom_again sound)
+  atom sound = fitting (λ (m : AtomId). atom_text names m.0) (IsNamed names) _ atom_is (atom_again sound)
 
   pub atom_is_text : (a : AtomId) → IsNames names → IsNamed names a → is_atom_text (atom_text names a.0) ≡ true
   atom_is_text a sound h = texts_are_atoms names (atom_text names a.0) a.0 sound (named_at a.0 h)
@@ -125,7 +125,7 @@ below_is limit text n wide e =
     let form = guarded (is_number_text text) (cond (nat_lt (number_value text) limit) (Some (number_value text)) None) n e in
     let small = guard_some (nat_lt (number_value text) limit) (number_value text) n form.1 in
     let below = test_lt (number_value text) limit small.0 in
-    subst (IsItem decimal (λ k. k < limit) text) small.1 (record { text_is = sym (decimal_again text form.0 (omega (arith, below, wide))); fits = below })
+    subst (IsItem decimal (λ k. k < limit) text) small.1 (record { text_is = sym (decimal_again text form.0 (omega arith)); fits = below })
 
 pub number_again : (n : ℕ) → IsWide n → number_reading (decimal n) ≡ Some n
 number_again n h = below_again (2 ^ 64) n h h
@@ -134,19 +134,19 @@ pub number_is : (text : List ℕ) (n : ℕ) → number_reading text ≡ Some n �
 number_is text n e = below_is (2 ^ 64) text n (omega arith) e
 
 abbrev pub number : Reader ℕ
-number = fitting decimal IsWide number_reading number_is number_again
+number = fitting _ IsWide _ number_is number_again
 
 pub narrow_again : (n : ℕ) → IsNarrow n → narrow_reading (decimal n) ≡ Some n
-narrow_again n h = below_again (2 ^ 32) n h (omega (arith, h))
+narrow_again n h = below_again (2 ^ 32) n h (omega arith)
 
 pub narrow_is : (text : List ℕ) (n : ℕ) → narrow_reading text ≡ Some n → IsItem decimal IsNarrow text n
 narrow_is text n e = below_is (2 ^ 32) text n (omega arith) e
 
 abbrev pub narrow : Reader ℕ
-narrow = fitting decimal IsNarrow narrow_reading narrow_is narrow_again
+narrow = fitting _ IsNarrow _ narrow_is narrow_again
 
 pub narrow_wide : (n : ℕ) → IsNarrow n → IsWide n
-narrow_wide n h = omega (arith, h)
+narrow_wide n h = omega arith
 
 pub decimal_lacks : (byte n : ℕ) → is_ascii_digit byte ≡ false → IsWide n → lacks byte (decimal n) ≡ true
 decimal_lacks byte n apart h = number_lacks byte (decimal n) apart (decimal-writes n h).form
@@ -175,23 +175,23 @@ abbrev pub IsVersion : ℕ → Type 0
 IsVersion n = (0 < n) × (n ≤ 999999)
 
 pub version_again : (n : ℕ) → IsVersion n → version_reading (decimal n) ≡ Some n
-version_again n h = let low = h.0 in let high = h.1 in passing_again is_version_text n (omega (arith, high)) (version_writes n (omega (arith, low)) high)
+version_again n h = let low = h.0 in let high = h.1 in passing_again is_version_text n (omega arith) (version_writes n (omega arith) high)
 
 pub version_is : (text : List ℕ) (n : ℕ) → version_reading text ≡ Some n → IsItem decimal IsVersion text n
-version_is text n e = passing_is is_version_text IsVersion text n (λ h. let b = version_bounds text h in let low = b.0 in let high = b.1 in (version_number text h, omega (arith, high), (omega (arith, low), high))) e
+version_is text n e = passing_is is_version_text IsVersion text n (λ h. let b = version_bounds text h in let low = b.0 in let high = b.1 in (version_number text h, omega arith, (omega arith, high))) e
 
 abbrev pub version : Reader ℕ
-version = fitting decimal IsVersion version_reading version_is version_again
+version = fitting _ IsVersion _ version_is version_again
 
 -- an arity
 pub arity_again : (n : ℕ) → n ≤ 15 → arity_reading (decimal n) ≡ Some n
-arity_again n high = passing_again is_arity_text n (omega (arith, high)) (arity_writes n high)
+arity_again n high = passing_again is_arity_text n (omega arith) (arity_writes n high)
 
 pub arity_is : (text : List ℕ) (n : ℕ) → arity_reading text ≡ Some n → IsItem decimal (λ k. k ≤ 15) text n
-arity_is text n e = passing_is is_arity_text (λ k. k ≤ 15) text n (λ h. let few = arity_few text h in (arity_number text h, omega (arith, few), few)) e
+arity_is text n e = passing_is is_arity_text (λ k. k ≤ 15) text n (λ h. let few = arity_few text h in (arity_number text h, omega arith, few)) e
 
 abbrev pub arity : Reader ℕ
-arity = fitting decimal (λ n. n ≤ 15) arity_reading arity_is arity_again
+arity = fitting _ (λ n. n ≤ 15) _ arity_is arity_again
 
 -- ---- terms, functions and calls of a report's line
 
@@ -229,7 +229,7 @@ module _ (names : Texts) (p : PlainTerm) where
       let words : text_words (plain_text names p) ≡ term_words p = ap text_words (sym same) ∙ it.words ∙ ap term_words back in
       record {
         is_text = is_text;
-        short = and_from (is_term_text (plain_text names p)) _ is_text (and_from (not (is_wide_text (plain_text names p))) _ (ap not narrow) (ap (λ (n : ℕ). nat_le n 64) words ∙ at_most (term_words p) h.short));
+        short = and_from _ _ is_text (and_from _ _ (ap not narrow) (ap (λ (n : ℕ). nat_le n 64) words ∙ at_most (term_words p) h.short));
         value = ap (term_in names) (sym same) ∙ it.value ∙ back;
         bytes = ap (list_all is_term_byte) (sym same) ∙ term_bytes-term_text names (term_of p) sound (term_held h);
       }
@@ -262,11 +262,11 @@ read_is_term names text sound h =
     let p = and_parts (is_term_text text) _ h in
     let q = and_parts (not (is_wide_text text)) (nat_le (text_words text) 64) p.1 in
     let form = tree_is text p.0 in
-    let fits : IntegersFit (tree_of text) = fits_of_none (tree_of text) (none_by (outside_of (tree_of text)) (sym form.wide ∙ not-true (is_wide_text text) q.0)) in
+    let fits : IntegersFit (tree_of text) = fits_of_none (tree_of text) (none_by _ (sym form.wide ∙ not-true (is_wide_text text) q.0)) in
     let leaves = EachLeaf-weaker (λ t. IsTermInteger (integer_of t)) (λ t. IsTermInteger (integer_of t)) (λ _. Unit {0}) (λ t. number_in names t < length names) (λ t k. k) (λ t k. number_within names t (number_of names t) sound refl) (tree_of text) fits in
     let read : IsTermOf names (map_leaves integer_of (number_in names) (tree_of text)) = record {
-      leaves = EachLeaf-map IsTermInteger (λ atom. atom < length names) integer_of (number_in names) (tree_of text) leaves;
-      short = let same = term_words-map integer_of (number_in names) (tree_of text) in let words = form.words in let few = few_words (text_words text) q.1 in omega (arith, same, words, few);
+      leaves = EachLeaf-map IsTermInteger (λ atom. atom < length names) _ _ (tree_of text) leaves;
+      short = let same = term_words-map integer_of (number_in names) (tree_of text) in let words = form.words in let few = few_words (text_words text) q.1 in omega arith;
     } in
     subst (IsTermOf names) (sym (form.value names)) read
 
@@ -359,7 +359,7 @@ module _ (names : Texts) (sound : IsNames names) where
       let text = terms_text names (p ∷ ps) in
       let parts = terms_parted names sound p ps h.1 in
       let count : length (parts_of_terms text) ≡ length (p ∷ ps) = ap length parts ∙ length-map (p ∷ ps) (plain_text names) in
-      let read : some_terms names text ≡ Some (p ∷ ps) = passed (nat_le (length (parts_of_terms text)) 15) _ None (few_at (length (parts_of_terms text)) (omega (arith, count, h.0)))
+      let read : some_terms names text ≡ Some (p ∷ ps) = passed (nat_le (length (parts_of_terms text)) 15) _ None (few_at (length (parts_of_terms text)) (omega (arith, h.0)))
       ∙ ap (each_reading (plain_reading names)) parts ∙ each_again (plain_text names) (plain_reading names) (IsTermOf names) (λ q k. plain_again names q sound k) (p ∷ ps) h.1 in
       nonempty_by text (join_nonempty (plain_text names p) (map (plain_text names) ps) (nonempty-is_term_text (plain_text names p) (text_back names p sound h.1.0).is_text)) (λ c rest e. some_terms_at names text c rest (some (p ∷ ps)) e read)
 
@@ -368,8 +368,7 @@ module _ (names : Texts) (sound : IsNames names) where
       let g = guarded (nat_le (length (parts_of_terms text)) 15) (each_reading (plain_reading names) (parts_of_terms text)) ps e in
       let is = each_is (plain_text names) (plain_reading names) (IsTermOf names) (plain_is names sound) (parts_of_terms text) ps g.1 in
       let count = each_count (plain_reading names) (parts_of_terms text) ps g.1 in
-      let few = few_is (length (parts_of_terms text)) g.0 in
-      record { text_is = joined_texts names text ps is.texts; fits = (omega (arith, count, few), is.fit) }
+      record { text_is = joined_texts names text ps is.texts; fits = (omega (arith, few_is (length (parts_of_terms text)) g.0), is.fit) }
 
   -- what is read are terms with this text
   pub terms_are : (text : List ℕ) (ps : List PlainTerm) → terms_reading names text ≡ Some ps → IsItem (terms_text names) (AreFewTerms names) text ps
@@ -379,7 +378,7 @@ module _ (names : Texts) (sound : IsNames names) where
   -- ---- readers
 
   abbrev pub term : Reader PlainTerm
-  term = fitting (plain_text names) (IsTermOf names) (plain_reading names) (plain_is names sound) (λ p h. plain_again names p sound h)
+  term = fitting _ (IsTermOf names) _ (plain_is names sound) (λ p h. plain_again names p sound h)
 
   -- arguments in front of a bracket
   abbrev pub arguments : Reader (List PlainTerm)

@@ -1,5 +1,5 @@
 -- The lines of a log are taken, one after another, and leave that log; its rendering is their text.
-use Rattle.report_text.proofs.Common.{◌≡◌, ℕ, ◌+◌, List, [], ◌∷◌, ◌++◌, refl, sym, ap, ◌∙◌, append_assoc, ◌≢◌, ◌-◌, ◌<◌, true, false, cond, ◌==◌}
+use Rattle.report_text.proofs.Common.{◌≡◌, ℕ, ◌+◌, List, [], ◌∷◌, ◌++◌, refl, sym, ap, ◌∙◌, append_assoc, ◌≢◌, ◌<◌, true, false, cond, ◌==◌}
 use Rattle.report_text.proofs.Common.{not, nat_lt, length, Option, Some, Texts, None, is_some, arith, append-nil, length-append, map, flat_map}
 use Rattle.report_text.proofs.Common.{AllByRecursion, and_from, nat_tests, Decides-eqb}
 use Rattle.report_text.proofs.Types.{Line, Span, ProcessLog, Snapshot, RunLog, ReportLine, Mfa, End, Entry}
@@ -111,11 +111,11 @@ no_zero : (left more : ℕ) → left ≡ 1 + more → (left == 0) ≡ false
 no_zero left more e = grind (arith, nat_tests)
 
 count_at : (left : ℕ) (p : Option ℕ) (more : ℕ) → left ≡ if_published p + more → count_after left p ≡ Some more
-count_at left None more e = ap (λ n. some n) (omega (arith, e))
-count_at left (Some g) more e = failed (left == 0) None (some (left - 1)) (no_zero left more e) ∙ ap (λ n. some n) (omega (arith, e))
+count_at left None more e = ap (λ n. some n) (omega arith)
+count_at left (Some g) more e = failed _ None _ (no_zero left more e) ∙ ap (λ n. some n) (omega arith)
 
 entry_taken_at : (log : RunLog) (left more : ℕ) (e : Entry) → left ≡ publishes e + more → taken (at log (Entries left)) (lines.Entry e) ≡ Some (at (with_entry log e) (Entries more))
-entry_taken_at log left more e h = bind_at (count_after left e.published) (λ n. Some (at (with_entry log e) (Entries n))) more (some (at (with_entry log e) (Entries more))) (count_at left e.published more h) refl
+entry_taken_at log left more e h = bind_at _ (λ n. Some (at (with_entry log e) (Entries n))) more _ (count_at left e.published more h) refl
 
 -- a log with these entries too
 abbrev with_entries : RunLog → List Entry → RunLog
@@ -153,7 +153,7 @@ differs a b h = grind (arith, nat_tests)
 
 follows : (going : Option Span) (span : Span) (spans : List Span) → 0 < span.turns → AreBehind going (span ∷ spans) → span_may_follow going span.generation span.turns ≡ true
 follows None span spans h apart = positive span.turns h
-follows (Some before) span spans h apart = and_from (nat_lt 0 span.turns) (not (before.generation == span.generation)) (positive span.turns h) (differs before.generation span.generation apart.0)
+follows (Some before) span spans h apart = and_from _ _ (positive span.turns h) (differs _ _ apart.0)
 
 behind_it : (going : Option Span) (span : Span) (spans : List Span) → AreBehind going (span ∷ spans) → AreApart (span ∷ spans)
 behind_it None span spans apart = apart
@@ -174,11 +174,9 @@ spans_are log process going [] fin rest turns apart = ap (λ ss. all_taken (at (
 spans_are log process going (span ∷ spans) fin rest turns apart =
     let more = flat_map span_lines spans ++ lines.End fin ∷ rest in
     let shown = map (λ l. lines.Shown l) span.lines in
-    let bare : Span = record { generation = span.generation; turns = span.turns; lines = [] } in
     ap (λ ls. all_taken (at log (Process process going)) (lines.Span span.generation span.turns ∷ ls)) (regroup shown (flat_map span_lines spans) (lines.End fin ∷ rest))
-    ∙ bind_at (taken (at log (Process process going)) (lines.Span span.generation span.turns)) (λ next. all_taken next (shown ++ more)) (at log (Process (spans_closed process going) (Some bare))) (all_taken (at log (Process (spans_closed process going) (Some span))) more)
-    (span_begins log process going span (follows going span spans turns.0 apart))
-    (lines_are log (spans_closed process going) bare span.lines more)
+    ∙ bind_at _ (λ next. all_taken next (shown ++ more)) _ _ (span_begins log process going span (follows going span spans turns.0 apart))
+    (lines_are log (spans_closed process going) (record { generation = span.generation; turns = span.turns; lines = [] }) span.lines more)
     ∙ spans_are log (spans_closed process going) (Some span) spans fin rest turns.1 (behind_it going span spans apart)
     ∙ ap (λ ss. all_taken (at (with_process log (record process { spans = ss; fin = fin })) Processes) rest) (append_assoc (with_going process.spans going) (span ∷ []) spans)
 
@@ -189,8 +187,7 @@ module _ (log : RunLog) (stage : Stage) (number : ℕ) (process : ProcessLog) wh
 
   process_is : (rest : List ReportLine) → may_begin stage ≡ true → number ≡ length log.processes → AreWhole process.spans → all_taken (at log stage) (process_lines number process ++ rest) ≡ all_taken (at (with_process log process) Processes) rest
   process_is rest h e whole =
-      bind_at (taken (at log stage) (lines.Process number process.target process.args)) (λ next. all_taken next ((flat_map span_lines process.spans ++ lines.End process.fin ∷ []) ++ rest)) (at log (Process (process_begun process.target process.args) None)) (all_taken (at (with_process log process) Processes) rest)
-      (begins h e)
+      bind_at _ (λ next. all_taken next ((flat_map span_lines process.spans ++ lines.End process.fin ∷ []) ++ rest)) _ _ (begins h e)
       (ap (all_taken (at log (Process (process_begun process.target process.args) None))) (regroup (flat_map span_lines process.spans) (lines.End process.fin ∷ []) rest)
       ∙ spans_are log (process_begun process.target process.args) None process.spans process.fin rest whole.turns whole.apart)
 
@@ -200,10 +197,9 @@ with_processes log ps = record log { processes = log.processes ++ ps }
 processes_are : (log : RunLog) (stage : Stage) (number : ℕ) (ps : List ProcessLog) (rest : List ReportLine) (r : Option ReportState) → may_begin stage ≡ true → number ≡ length log.processes → AllByRecursion (λ p. AreWhole p.spans) ps → ((last : Stage) → may_begin last ≡ true → all_taken (at (with_processes log ps) last) rest ≡ r) → all_taken (at log stage) (processes_lines number ps ++ rest) ≡ r
 processes_are log stage number [] rest r h e whole more = ap (λ ps. all_taken (at (record log { processes = ps }) stage) rest) (sym (append-nil log.processes)) ∙ more stage h
 processes_are log stage number (p ∷ ps) rest r h e whole more =
-    let longer = length-append log.processes (p ∷ []) in
     ap (all_taken (at log stage)) (regroup (process_lines number p) (processes_lines (number + 1) ps) rest)
     ∙ process_is log stage number p (processes_lines (number + 1) ps ++ rest) h e whole.0
-    ∙ processes_are (with_process log p) Processes (number + 1) ps rest r refl (omega (arith, e, longer)) whole.1
+    ∙ processes_are (with_process log p) Processes (number + 1) ps rest r refl (omega (arith, length-append log.processes (p ∷ []))) whole.1
     (λ last k. ap (λ qs. all_taken (at (record log { processes = qs }) last) rest) (append_assoc log.processes (p ∷ []) ps) ∙ more last k)
 
 -- ---- observers
@@ -216,22 +212,19 @@ exports_are log shots shot (x ∷ exports) rest =
 shots_are : (log : RunLog) (shots : List Snapshot) (going : Option Snapshot) (more : List Snapshot) (rest : List ReportLine) (r : Option ReportState) → ((ss : List Snapshot) (g : Option Snapshot) → with_going ss g ≡ with_going shots going ++ more → all_taken (at log (Observer ss g)) rest ≡ r) → all_taken (at log (Observer shots going)) (flat_map snapshot_lines more ++ rest) ≡ r
 shots_are log shots going [] rest r k = k shots going (sym (append-nil (with_going shots going)))
 shots_are log shots going (shot ∷ more) rest r k =
-    let later = flat_map snapshot_lines more ++ rest in
     ap (λ ls. all_taken (at log (Observer shots going)) (lines.Snapshot shot.generation ∷ ls)) (regroup (map export_line shot.exports) (flat_map snapshot_lines more) rest)
-    ∙ exports_are log (with_going shots going) (record { generation = shot.generation; exports = [] }) shot.exports later
+    ∙ exports_are log (with_going shots going) (record { generation = shot.generation; exports = [] }) shot.exports (flat_map snapshot_lines more ++ rest)
     ∙ shots_are log (with_going shots going) (Some shot) more rest r (λ ss g e. k ss g (e ∙ append_assoc (with_going shots going) (shot ∷ []) more))
 
 abbrev with_observers : RunLog → List (List Snapshot) → RunLog
 with_observers log obs = record log { observers = log.observers ++ obs }
 
 closes : (log : RunLog) (stage : Stage) (closed : RunLog) → observers_closed log stage ≡ Some closed → all_taken (at log stage) (lines.Close ∷ []) ≡ Some (at closed Done)
-closes log stage closed h =
-    bind_at (taken (at log stage) lines.Close) (λ next. all_taken next []) (at closed Done) (some (at closed Done))
-    (bind_at (observers_closed log stage) (λ c. Some (at c Done)) closed (some (at closed Done)) h refl) refl
+closes log stage closed h = bind_at _ (λ next. all_taken next []) _ _ (bind_at _ (λ c. Some (at c Done)) _ _ h refl) refl
 
 observer_begins : (log : RunLog) (stage : Stage) (closed : RunLog) (number : ℕ) → observers_closed log stage ≡ Some closed → number ≡ length closed.observers → taken (at log stage) (lines.Observer number) ≡ Some (at closed (Observer [] None))
 observer_begins log stage closed number h e =
-    bind_at (observers_closed log stage) (λ c. cond (number == length c.observers) (Some (at c (Observer [] None))) None) closed (some (at closed (Observer [] None))) h
+    bind_at _ (λ c. cond (number == length c.observers) (Some (at c (Observer [] None))) None) _ _ h
     (passed (number == length closed.observers) (some (at closed (Observer [] None))) None ((Decides-eqb number (length closed.observers)).1 e))
 
 observers_are : (log : RunLog) (stage : Stage) (closed : RunLog) (number : ℕ) (obs : List (List Snapshot)) → observers_closed log stage ≡ Some closed → number ≡ length closed.observers → all_taken (at log stage) (observers_lines number obs ++ lines.Close ∷ []) ≡ Some (at (with_observers closed obs) Done)
@@ -240,10 +233,9 @@ observers_are log stage closed number (shots ∷ obs) h e =
     let later = observers_lines (number + 1) obs ++ lines.Close ∷ [] in
     let longer = length-append closed.observers (shots ∷ []) in
     ap (λ ls. all_taken (at log stage) (lines.Observer number ∷ ls)) (regroup (flat_map snapshot_lines shots) (observers_lines (number + 1) obs) (lines.Close ∷ []))
-    ∙ bind_at (taken (at log stage) (lines.Observer number)) (λ next. all_taken next (flat_map snapshot_lines shots ++ later)) (at closed (Observer [] None)) (some (at (with_observers closed (shots ∷ obs)) Done))
-    (observer_begins log stage closed number h e)
+    ∙ bind_at _ (λ next. all_taken next (flat_map snapshot_lines shots ++ later)) _ _ (observer_begins log stage closed number h e)
     (shots_are closed [] None shots later (some (at (with_observers closed (shots ∷ obs)) Done))
-    (λ ss g same. observers_are closed (Observer ss g) (with_observer closed shots) (number + 1) obs (ap (λ x. some (with_observer closed x)) same) (omega (arith, e, longer))
+    (λ ss g same. observers_are closed (Observer ss g) (with_observer closed shots) (number + 1) obs (ap (λ x. some (with_observer closed x)) same) (omega arith)
     ∙ ap (λ os. some (at (record closed { observers = os }) Done)) (append_assoc closed.observers (shots ∷ []) obs)))
 
 -- ---- a whole log

@@ -9,7 +9,7 @@ use Rattle.report_text.proofs.Texts.{lines_of_text, as_last_line, all_lines, lin
 use Rattle.report_text.proofs.Types.{Entry, Span, ProcessLog, Snapshot, RunLog, ReportFault, ReportLine, Stage, Done, ReportState}
 use Rattle.report_text.proofs.Logs.{published_count, rendering_of, AreWhole, IsWide, IsEntryOf, IsProcessOf}
 use Rattle.report_text.proofs.Logs.{IsSnapshotOf, IsSpanOf, IsLineOf, IsExportOf, IsWellFormed, count-cons}
-use Rattle.report_text.proofs.Forms.{line_reading, line_text, IsReportLine, span_lines, process_lines, processes_lines, export_line, snapshot_lines}
+use Rattle.report_text.proofs.Forms.{line_text, IsReportLine, span_lines, process_lines, processes_lines, export_line, snapshot_lines}
 use Rattle.report_text.proofs.Forms.{observer_lines, observers_lines, log_lines, lines_text, AreCounted, GoesOn, first_lines, StopsAt, EndsAt}
 use Rattle.report_text.proofs.Forms.{FaultAt, FaultOf, at, report_opening, taken, all_taken, Gives, line_taken, ended_log, last_number, text_ended}
 use Rattle.report_text.proofs.Forms.{on_from, lines_on, bytes_on}
@@ -41,7 +41,7 @@ module _ (names : Texts) where
   processes_fit : (number : ℕ) (ps : List ProcessLog) → number + length ps ≤ 2 ^ 64 → AllByRecursion (IsProcessOf names) ps → AllByRecursion (IsReportLine names) (processes_lines number ps)
   processes_fit number [] room h = tt
   processes_fit number (p ∷ ps) room h =
-      each_append (IsReportLine names) (process_lines number p) (processes_lines (number + 1) ps) (process_fits number p (omega (arith, room)) h.0) (processes_fit (number + 1) ps (omega (arith, room)) h.1)
+      each_append (IsReportLine names) (process_lines number p) (processes_lines (number + 1) ps) (process_fits number p (omega arith) h.0) (processes_fit (number + 1) ps (omega arith) h.1)
 
   shot_fits : (shot : Snapshot) → IsSnapshotOf names shot → AllByRecursion (IsReportLine names) (snapshot_lines shot)
   shot_fits shot h = (h.generation, map_fits (IsReportLine names) (IsExportOf names) export_line (λ x k. (k.function, k.serial)) shot.exports h.exports)
@@ -49,7 +49,7 @@ module _ (names : Texts) where
   observers_fit : (number : ℕ) (obs : List (List Snapshot)) → number + length obs ≤ 2 ^ 64 → AllByRecursion (λ shots. AllByRecursion (IsSnapshotOf names) shots) obs → AllByRecursion (IsReportLine names) (observers_lines number obs)
   observers_fit number [] room h = tt
   observers_fit number (shots ∷ obs) room h =
-      each_append (IsReportLine names) (observer_lines number shots) (observers_lines (number + 1) obs) (omega (arith, room), flat_fits (IsReportLine names) (IsSnapshotOf names) snapshot_lines shot_fits shots h.0) (observers_fit (number + 1) obs (omega (arith, room)) h.1)
+      each_append (IsReportLine names) (observer_lines number shots) (observers_lines (number + 1) obs) (omega arith, flat_fits (IsReportLine names) (IsSnapshotOf names) snapshot_lines shot_fits shots h.0) (observers_fit (number + 1) obs (omega arith) h.1)
 
   log_fits : (log : RunLog) → IsGood names log → AllByRecursion (IsReportLine names) (log_lines log)
   log_fits log h = (
@@ -70,11 +70,11 @@ whole_each names (p ∷ ps) h = (h.0.whole, whole_each names ps h.1)
 
 long_text : (names : Texts) (ls : List ReportLine) → length ls ≤ length (lines_text names ls)
 long_text names [] = omega arith
-long_text names (l ∷ ls) = let more = long_text names ls in let all = length-append (line_text names l) (10 ∷ lines_text names ls) in omega (arith, more, all)
+long_text names (l ∷ ls) = let more = long_text names ls in let all = length-append (line_text names l) (10 ∷ lines_text names ls) in omega arith
 
 counts_few : (es : List Entry) → published_count es ≤ length es
-counts_few [] = let none : published_count [] ≡ 0 = refl in omega (arith, none)
-counts_few (e ∷ es) = let all = count-cons e es in let more = counts_few es in let one = publishes_few (is_some e.published) in omega (arith, all, more, one)
+counts_few [] = let none : published_count [] ≡ 0 = refl in omega arith
+counts_few (e ∷ es) = let all = count-cons e es in let more = counts_few es in let one = publishes_few (is_some e.published) in omega arith
   where
     publishes_few : (b : Bool) → cond b 1 0 ≤ 1
     publishes_few true = omega arith
@@ -82,11 +82,11 @@ counts_few (e ∷ es) = let all = count-cons e es in let more = counts_few es in
 
 processes_few : (number : ℕ) (ps : List ProcessLog) → length ps ≤ length (processes_lines number ps)
 processes_few number [] = omega arith
-processes_few number (p ∷ ps) = let more = processes_few (number + 1) ps in let all = length-append (process_lines number p) (processes_lines (number + 1) ps) in omega (arith, more, all)
+processes_few number (p ∷ ps) = let more = processes_few (number + 1) ps in let all = length-append (process_lines number p) (processes_lines (number + 1) ps) in omega arith
 
 observers_few : (number : ℕ) (obs : List (List Snapshot)) → length obs ≤ length (observers_lines number obs)
 observers_few number [] = omega arith
-observers_few number (o ∷ obs) = let more = observers_few (number + 1) obs in let all = length-append (observer_lines number o) (observers_lines (number + 1) obs) in omega (arith, more, all)
+observers_few number (o ∷ obs) = let more = observers_few (number + 1) obs in let all = length-append (observer_lines number o) (observers_lines (number + 1) obs) in omega arith
 
 counted : (names : Texts) (log : RunLog) (text : List ℕ) → rendering_of names log ≡ text → length text < 2 ^ 32 → AreCounted log
 counted names log text e short =
@@ -135,8 +135,7 @@ joined-append (x ∷ xs) ys = ap (λ (t : List ℕ). x ++ 10 ∷ t) (joined-appe
 lines_in : (texts : Texts) (rest : List ℕ) → AllByRecursion (λ t. lacks 10 t ≡ true) texts → lines_of_text (lines_joined texts ++ rest) ≡ lines (texts ++ (lines_of_text rest).ended) (lines_of_text rest).tail
 lines_in [] rest h = refl
 lines_in (t ∷ texts) rest h =
-    ap lines_of_text (append_assoc t (10 ∷ lines_joined texts) rest)
-    ∙ lines_behind t (lines_joined texts ++ rest) h.0
+    ap lines_of_text (append_assoc t (10 ∷ lines_joined texts) rest) ∙ lines_behind t _ h.0
     ∙ ap (λ (w : Lines). lines (t ∷ w.ended) w.tail) (lines_in texts rest h.1)
 
 module _ (names : Texts) where
@@ -150,13 +149,13 @@ module _ (names : Texts) where
 
   -- a front of lines that are taken is taken
   front_taken : (s next : ReportState) (xs ys : Texts) → texts_taken names s (xs ++ ys) ≡ Some next → (t : ReportState) × (texts_taken names s xs ≡ Some t) × (texts_taken names t ys ≡ Some next)
-  front_taken s next xs ys e = bind_some (texts_taken names s xs) (λ t. texts_taken names t ys) next (sym (texts_taken-append s xs ys) ∙ e)
+  front_taken s next xs ys e = bind_some _ (λ t. texts_taken names t ys) next (sym (texts_taken-append s xs ys) ∙ e)
 
   lines_are : IsNames names → (s : ReportState) (texts : Texts) (next : ReportState) → Stands names s → texts_taken names s texts ≡ Some next → AreLines names s texts next
   lines_are sound s [] next h e = subst (AreLines names s []) (some_is s next e) (record { rows_are = []; texts_are = refl; stands = h; so_far_is = sym (append-nil (so_far s)) })
   lines_are sound s (text ∷ texts) next h e =
-      let a = bind_some (line_taken names s text) (λ t. texts_taken names t texts) next e in
-      let b = bind_some (line_reading names text) (taken s) a.0 a.1 in
+      let a = bind_some _ (λ t. texts_taken names t texts) next e in
+      let b = bind_some _ (taken s) a.0 a.1 in
       let is = line_is names sound text b.0 b.1 in
       let step = step_is names s b.0 a.0 h is.fits b.2 in
       let more = lines_are sound a.0 texts next step.stands a.2 in
@@ -191,10 +190,9 @@ module _ (names : Texts) where
   lines_on_taken : (s : ReportState) (number : ℕ) (texts : Texts) (tail : List ℕ) (next : ReportState) → texts_taken names s texts ≡ Some next → lines_on names s number texts tail ≡ text_ended (number + length texts) next tail
   lines_on_taken s number [] tail next e = ap (λ t. text_ended number t tail) (some_is s next e) ∙ ap (λ n. text_ended n next tail) (omega arith)
   lines_on_taken s number (text ∷ texts) tail next e =
-      let a = bind_some (line_taken names s text) (λ t. texts_taken names t texts) next e in
+      let a = bind_some _ (λ t. texts_taken names t texts) next e in
       ap (λ (o : Option ReportState). on_from number o (λ t. lines_on names t (number + 1) texts tail)) a.1
-      ∙ lines_on_taken a.0 (number + 1) texts tail next a.2
-      ∙ ap (λ n. text_ended n next tail) (omega arith)
+      ∙ lines_on_taken a.0 (number + 1) texts tail next a.2 ∙ ap (λ n. text_ended n next tail) (omega arith)
 
 -- how a reading ends: a line may not stand there, or all lines are taken
 record Stopped (names : Texts) (s : ReportState) (number : ℕ) (texts : Texts) (r : Result RunLog ReportFault) : Type 0 where
@@ -382,9 +380,8 @@ stopped_fault names sound text h n e =
     no_more : (names : Texts) (s last : ReportState) (before : Texts) (text : List ℕ) → texts_taken names s before ≡ Some last → line_taken names last text ≡ None → (next : ReportState) × (texts_taken names s (before ++ text ∷ []) ≡ Some next) → ⊥
     no_more names s last before text e none t =
         let f = front_taken names s t.0 before (text ∷ []) t.1 in
-        let same = some_is f.0 last (sym f.1 ∙ e) in
-        let here = bind_some (line_taken names f.0 text) (λ x. texts_taken names x []) t.0 f.2 in
-        let no = sym here.1 ∙ ap (λ s. line_taken names s text) same ∙ none in
+        let here = bind_some _ (λ x. texts_taken names x []) t.0 f.2 in
+        let no = sym here.1 ∙ ap (λ s. line_taken names s text) (some_is f.0 last (sym f.1 ∙ e)) ∙ none in
         absurd cc
 
 -- all lines were taken, and the text is no report
@@ -409,17 +406,12 @@ last_is : (count : ℕ) → last_number (1 + count) ≡ max 1 (count + 0)
 last_is count = last_step count (nat_lt 1 (1 + count)) refl
   where
     last_step : (count : ℕ) (t : Bool) → nat_lt 1 (1 + count) ≡ t → cond t (1 + count - 1) 1 ≡ max 1 (count + 0)
-    last_step count true e = let some : 1 < 1 + count = grind (arith, nat_tests) in omega (arith, some)
-    last_step count false e = let none : 1 + count ≤ 1 = grind (arith, nat_tests) in omega (arith, none)
+    last_step count true e = let some : 1 < 1 + count = grind (arith, nat_tests) in omega arith
+    last_step count false e = let none : 1 + count ≤ 1 = grind (arith, nat_tests) in omega arith
 
 text_number : (texts : Texts) (tail : List ℕ) (n : ℕ) (s : ReportState) → text_ended (1 + length texts) s tail ≡ Err (faults.Syntax n) → n ≡ max 1 (length (texts ++ as_last_line tail))
-text_number texts [] n s e =
-    let all = length-append texts [] in
-    ended_number (length texts) n s.log s.stage e ∙ last_is (length texts) ∙ ap (max 1) (sym all)
-text_number texts (c ∷ tail) n s e =
-    let all = length-append texts ((c ∷ tail) ∷ []) in
-    let number : 1 + length texts ≡ n = syntax_number (1 + length texts) n e in
-    omega (arith, all, number)
+text_number texts [] n s e = ended_number (length texts) n s.log s.stage e ∙ last_is (length texts) ∙ ap (max 1) (sym (length-append texts []))
+text_number texts (c ∷ tail) n s e = omega (arith, length-append texts ((c ∷ tail) ∷ []), syntax_number (1 + length texts) n e)
   where
     syntax_number : (a b : ℕ) → ◌≡◌ {A = Result RunLog ReportFault} (Err (faults.Syntax a)) (Err (faults.Syntax b)) → a ≡ b
     syntax_number a b e = cc
@@ -465,7 +457,7 @@ module _ (names : Texts) (text : List ℕ) where
   later_none n m f g h = by_here f.here g.here
     where
       shorter : (xs ys : Texts) → length xs ≤ length (xs ++ ys)
-      shorter xs ys = let all = length-append xs ys in omega (arith, all)
+      shorter xs ys = let all = length-append xs ys in omega arith
 
       by_here : StopsAt names text n ⊎ EndsAt names text n → StopsAt names text m ⊎ EndsAt names text m → ⊥
       by_here (inl s) k = s.stops (fewer_lines n (m - 1) (omega (arith, h)) g.before)

@@ -34,7 +34,7 @@ lines_append ws xs ys zs p q = record {
 
 -- a line that names nothing
 pub quiet_more : (xs ys : List ScriptLine) (line : ScriptLine) → Alike xs ys → Alike (line ∷ []) [] → Alike (xs ++ line ∷ []) ys
-quiet_more xs ys line p q = subst (Alike (xs ++ line ∷ [])) (append-nil ys) (lines_append xs ys (line ∷ []) [] p q)
+quiet_more xs ys line p q = subst (Alike _) (append-nil ys) (lines_append xs ys _ [] p q)
 
 -- ---- module texts
 
@@ -42,19 +42,19 @@ abbrev pub AreAlike : List LineForm → List LineForm → Type 0
 AreAlike xs ys = Alike (code_form xs) (code_form ys)
 
 pub alike_same : (xs : List LineForm) → AreAlike xs xs
-alike_same xs = lines_same (code_form xs)
+alike_same xs = lines_same _
 
 pub alike_back : (xs ys : List LineForm) → AreAlike xs ys → AreAlike ys xs
-alike_back xs ys p = lines_back (code_form xs) (code_form ys) p
+alike_back xs ys p = lines_back _ _ p
 
 pub alike_then : (xs ys zs : List LineForm) → AreAlike xs ys → AreAlike ys zs → AreAlike xs zs
-alike_then xs ys zs p q = lines_then (code_form xs) (code_form ys) (code_form zs) p q
+alike_then xs ys zs p q = lines_then _ _ _ p q
 
 pub alike_append : (ws xs ys zs : List LineForm) → AreAlike ws xs → AreAlike ys zs → AreAlike (ws ++ ys) (xs ++ zs)
 alike_append ws xs ys zs p q =
     let left = sym (map-append (λ l. code l) ws ys) in
     let right = sym (map-append (λ l. code l) xs zs) in
-    subst (λ (ls : List ScriptLine). Alike ls (code_form (xs ++ zs))) left (subst (Alike (code_form ws ++ code_form ys)) right (lines_append (code_form ws) (code_form xs) (code_form ys) (code_form zs) p q))
+    subst (λ (ls : List ScriptLine). Alike ls (code_form (xs ++ zs))) left (subst (Alike _) right (lines_append (code_form ws) (code_form xs) (code_form ys) (code_form zs) p q))
 
 -- a label names nothing
 pub alike_label : (name : List ℕ) (xs : List LineForm) → AreAlike (label name ∷ xs) xs

@@ -7,8 +7,8 @@ use Rattle.mod_core.specs.declared.code.Instr.{Instr}
 use Rattle.script_text.proofs.Types.{LineFault}
 use Rattle.script_text.proofs.Modules.{label_text, written_instr, goes_to, labels_at, lines_from, function_lines, canonical, is_open, may_follow}
 use Rattle.script_text.proofs.Modules.{last_line, has_high_register, has_wide_integer, names_after, InstrForm, LineForm, title, header, label, instr}
-use Rattle.script_text.proofs.Modules.{end, is_version_text, is_arity_text, is_line_form, FollowOn, names_behind, FunctionForm, HeaderForm, body_of}
-use Rattle.script_text.proofs.Modules.{functions_in, headers_in, instrs_in, instr_in, function_in, module_of, IsTitled, is_settled_line}
+use Rattle.script_text.proofs.Modules.{end, is_line_form, FollowOn, FunctionForm, HeaderForm, body_of}
+use Rattle.script_text.proofs.Modules.{functions_in, headers_in, instrs_in, instr_in, function_in, module_of, IsTitled}
 use Rattle.script_text.proofs.Modules.{unsettled_at, unsettled_below, earlier, first_unsettled, unsettled_line, last_line-push, head_of}
 use Rattle.script_text.proofs.ModuleNames.{HaveHeld, held_body}
 use Rattle.script_text.proofs.TermLines.{atom_again, version_again, arity_again}
@@ -54,7 +54,7 @@ rest_of names before [] last is opened follow closed = closed_open last (sym is 
 rest_of names before (title name version ∷ lines) last is opened follow closed =
     let no : is_none (Some last) ≡ true = sym (ap is_none is) ∙ follow.0.stands.place in
     absurd cc
-rest_of names before (end ∷ lines) last is opened follow closed = nothing_behind (names_after names end) (before ++ end ∷ []) lines (last_line-push before end) follow.1
+rest_of names before (end ∷ lines) last is opened follow closed = nothing_behind _ _ lines (last_line-push before end) follow.1
 rest_of names before (line ∷ lines) last is opened follow closed = rest_of (names_after names line) (before ++ line ∷ []) lines line (last_line-push before line) refl follow.1 (closed_behind before lines line closed)
 
 -- what a function's lines begin with stands behind its header only
@@ -90,9 +90,9 @@ settled_first false o none = absurd cc
 good_instrs : (names : Texts) (hs : List HeaderForm) (body lines : List LineForm) → AreSound lines → HaveHeld names lines → unsettled_at hs body lines ≡ None → AllByRecursion (IsGoodInstr names hs body) (instrs_in lines)
 good_instrs names hs body [] sound held none = tt
 good_instrs names hs body (instr i ∷ lines) sound held none =
-    let p = settled_first (is_settled_line hs body (instr i)) (unsettled_at hs body lines) none in
+    let p = settled_first _ _ none in
     (record { sound = sound.0.form; narrow = sound.0.narrow; held = held.0; settled = p.0 }, good_instrs names hs body lines sound.1 held.1 p.1)
-good_instrs names hs body (line ∷ lines) sound held none = good_instrs names hs body lines sound.1 held.1 (settled_first true (unsettled_at hs body lines) none).1
+good_instrs names hs body (line ∷ lines) sound held none = good_instrs names hs body lines sound.1 held.1 (settled_first true _ none).1
 
 -- instructions as lines
 abbrev instr_lines : List InstrForm → List LineForm
@@ -102,7 +102,7 @@ module _ (names : Texts) (hs : List HeaderForm) (forms : List FunctionForm) (are
   instr_alike : (body : List LineForm) (i : InstrForm) → IsGoodInstr names hs body i → AreAlike (instr (written_instr names (map (function_in names hs) forms) (instr_in names hs body i)) ∷ []) (instr i ∷ [])
   instr_alike body i g =
       let like = instr_like names hs forms body i are g in
-      alike_line (instr (written_instr names (map (function_in names hs) forms) (instr_in names hs body i))) (instr i) (record { atoms = like.atoms; homes = λ home. refl; functions = λ home. like.functions })
+      alike_line _ _ (record { atoms = like.atoms; homes = λ home. refl; functions = λ home. like.functions })
 
   -- the lines of code name what its instructions do
   code_alike : (body : List LineForm) (code : List Instr) (number : ℕ) (is : List InstrForm) → AllByRecursion (IsGoodInstr names hs body) is → AreAlike (lines_from names (map (function_in names hs) forms) code number (map (instr_in names hs body) is)) (instr_lines is)
@@ -124,7 +124,7 @@ module _ (names : Texts) (hs : List HeaderForm) (forms : List FunctionForm) (are
   header_alike : (exported : Bool) (name arity : List ℕ) → is_line_form (header exported name arity) ≡ true → HasNumber names name → AreAlike (header exported (atom_text names (number_in names name)) (decimal (number_value arity)) ∷ []) (header exported name arity ∷ [])
   header_alike exported name arity sound held =
       let n = atom_again names name held in
-      let a = arity_again arity (and_parts (is_atom_text name) (is_arity_text arity) sound).1 in
+      let a = arity_again arity (and_parts _ _ sound).1 in
       subst (λ (line : LineForm). AreAlike (line ∷ []) (header exported name arity ∷ [])) (λ k. header exported (sym n k) (sym a k)) (alike_same (header exported name arity ∷ []))
 
   rest_alike : (lines : List LineForm) → IsRest lines → AreSound lines → HaveHeld names lines → first_unsettled hs lines ≡ None → AreAlike (instr_lines (instrs_in (body_of lines)) ++ to_end (functions_in lines)) lines
@@ -157,7 +157,7 @@ module _ (names : Texts) (hs : List HeaderForm) (forms : List FunctionForm) (are
 title_alike : (names : Texts) (name version : List ℕ) → is_line_form (title name version) ≡ true → HasNumber names name → AreAlike (title (atom_text names (number_in names name)) (decimal (number_value version)) ∷ []) (title name version ∷ [])
 title_alike names name version sound held =
     let n = atom_again names name held in
-    let v = version_again version (and_parts (is_atom_text name) (is_version_text version) sound).1 in
+    let v = version_again version (and_parts (is_atom_text name) _ sound).1 in
     subst (λ (line : LineForm). AreAlike (line ∷ []) (title name version ∷ [])) (λ k. title (sym n k) (sym v k)) (alike_same (title name version ∷ []))
 
 text_alike : (names before : Texts) (text : List LineForm) → IsTitled text → FollowOn before [] text → last_line text ≡ Some end → HaveHeld names text → unsettled_line text ≡ None → AreAlike (canonical names (module_of names text)) text
@@ -175,7 +175,7 @@ text_alike names before text t follow closed held none = absurd t
 module _ (names : Texts) (text : List LineForm) (c : IsClosed names text) where
   -- the atoms of a closed text are held
   pub text_held : HaveHeld names text
-  text_held = have_held_in (names_behind c.before text) names text c.among (held_behind c.before text)
+  text_held = have_held_in _ names text c.among (held_behind _ text)
 
   -- the canonical lines of the module that a text says name what the text names
   pub module_alike : unsettled_line text ≡ None → AreAlike (canonical names (module_of names text)) text

@@ -2,7 +2,7 @@
 use Rattle.std.proofs.Common.{◌≡◌, ℕ, List, [], ◌∷◌, ◌++◌, map, None, sym, refl, subst, ◌+◌, ◌≤◌, Bool, true, false, cond, length, Option}
 use Rattle.std.proofs.Common.{Some, Result, Ok, Err, ap, ◌∙◌, append_assoc, append-nil, length-append, arith, ◌<◌, nat_le, nat_lt}
 use Rattle.std.specs.Prelude.{All}
-use Rattle.script_text.proofs.Common.{AllByRecursion, flat_map, list_any, All-head, All-tail, All-nil, All-push, le-ltb, or_from, map-append, Texts}
+use Rattle.script_text.proofs.Common.{AllByRecursion, flat_map, All-head, All-tail, All-nil, All-push, le-ltb, or_from, map-append, Texts}
 use Rattle.script_text.proofs.Common.{fold, sum_by, nat_tests, sum_by-append, sum_by-cons}
 use Rattle.script_text.proofs.Texts.{IsNames, Extends, Extends-refl, number_value, names_with_all, decimal-writes}
 use Rattle.script_text.proofs.Types.{Module, Mfa, ModRef, LineCause, Place, Between, Within, Script, ScriptCmd, Observing, Loading, Finished}
@@ -54,13 +54,12 @@ readings names (m ∷ ms) sound are held =
     let t = canonical_is_text names m sound (All-head IsModule m ms are) (All-head (IsModuleHeld names) m ms held) in
     let more = readings names ms sound (All-tail IsModule m ms are) (All-tail (IsModuleHeld names) m ms held) in
     let own : IsClosed names t.lines = record { before = names; room = sound.room; follow = t.faultless; closed = t.closed; among = subst (λ (ns : Texts). Extends ns names) t.named (Extends-refl names) } in
-    let back = sym t.value in
     record {
       texts = t.lines ∷ more.texts;
       spelled = λ i. t.spelled i ++ more.spelled i;
       closed = (own, more.closed);
       settled = (t.settled, more.settled);
-      value = λ i. back i ∷ more.value i;
+      value = λ i. (sym t.value) i ∷ more.value i;
     }
 
 -- the canonical lines of the modules that texts say name what the texts name
@@ -76,13 +75,12 @@ texts_alike names (text ∷ texts) closed settled =
 
 no_fault_by : (a b c d e f g : Bool) (x y : Bool) → cond a (Some line_faults.Register) (cond b (Some line_faults.Int) (cond c (Some line_faults.Term) (cond d (Some line_faults.Names) (cond e (Some line_faults.TooManyFunctions) (cond f (Some line_faults.TooLong) (cond g (Some line_faults.Duplicate) None)))))) ≡ None → x ≡ false → (f ≡ false → y ≡ false) → cond a (Some line_faults.Register) (cond b (Some line_faults.Int) (cond c (Some line_faults.Term) (cond x (Some line_faults.Names) (cond e (Some line_faults.TooManyFunctions) (cond y (Some line_faults.TooLong) (cond g (Some line_faults.Duplicate) None)))))) ≡ None
 no_fault_by false false false false false false false x y none few short =
-    let long = short refl in
-    λ i. cond (few i) (Some line_faults.Names) (cond (long i) (Some line_faults.TooLong) None)
+    λ i. cond (few i) (Some line_faults.Names) (cond ((short refl) i) (Some line_faults.TooLong) None)
 no_fault_by a b c d e f g x y none few short = absurd cc
 
 -- how long an image is does not depend on the names
 short_under : (names others : Texts) (text : List LineForm) (line : LineForm) → RowFrom None text → All IsSound text → ends_too_long names text line ≡ false → ends_too_long others text line ≡ false
-short_under names others text end row sound h = too_long_is others text row sound ∙ sym (too_long_is names text row sound) ∙ h
+short_under names others text end row sound h = too_long_is _ text row sound ∙ sym (too_long_is names text row sound) ∙ h
 short_under names others text line row sound h = refl
 
 judged_under : (under : Texts) (v : Known) (line : LineForm) → IsNext under v.lines (line_written line) line → RowFrom None v.lines → All IsSound v.lines → length (names_after v.names line) ≤ 4096 → IsJudged v line
@@ -127,7 +125,7 @@ no_end line next e = refl
 
 module _ (names : Texts) (room : length names ≤ 4096) where
   few_names : (some : Texts) → Extends some names → length some ≤ 4096
-  few_names some e = let len : length names ≡ length (some ++ e.more) = ap (λ (l : Texts). length l) e.whole in omega (arith, len, length-append some e.more, room)
+  few_names some e = let len : length names ≡ length (some ++ e.more) = ap (λ (l : Texts). length l) e.whole in omega (arith, length-append some e.more, room)
 
   record IsWritten (home : List ℕ) (v : Known) (number : ℕ) (line : LineForm) (fs : List Mfa) (more : List ScriptLine) : Type 0 where
     step_is : step v number (code line) ≡ Ok (text_closed (with_line v line fs))
@@ -241,7 +239,7 @@ module _ (names : Texts) (room : length names ≤ 4096) where
 
   apart_new : (refs more : List ModRef) (r : ModRef) → AreApart (refs ++ r ∷ more) → is_among refs r ≡ false
   apart_new [] more r h = refl
-  apart_new (q ∷ refs) more r h = or_from (is_same_mod_ref r q) (list_any (is_same_mod_ref r) refs) (at_middle (λ s. is_same_mod_ref s q ≡ false) refs more r h.0) (apart_new refs more r h.1)
+  apart_new (q ∷ refs) more r h = or_from _ _ (at_middle (λ s. is_same_mod_ref s q ≡ false) refs more r h.0) (apart_new refs more r h.1)
 
   pub texts_run : (home : List ℕ) (v : Known) (number : ℕ) (texts : List (List LineForm)) (more : List ScriptLine) (ms : List Module) → AreClosed names texts → AreSettled texts → AreApart (map ref_of (ms ++ map (module_of names) texts)) → Built (λ p. p ≡ Between) (gathered ms [] []) v → Coming names home v (code_form (flat_map (λ text. text) texts) ++ more)
       → Ran names home v number (code_form (flat_map (λ text. text) texts)) more (Built (λ p. p ≡ Between) (gathered (ms ++ map (module_of names) texts) [] []))
@@ -297,26 +295,24 @@ module _ (names : Texts) (room : length names ≤ 4096) where
 
   observers_run : (home : List ℕ) (v : Known) (number : ℕ) (counts : List ℕ) (more : List ScriptLine) (ms : List Module) (os : List ℕ) → AllByRecursion (λ n. (0 < n) × (n ≤ 16)) counts → length os + length counts ≤ 4 → Built IsFront (gathered ms os []) v → Coming names home v (observer_form counts ++ more)
       → Ran names home v number (observer_form counts) more (Built IsFront (gathered ms (os ++ counts) []))
-  observers_run home v number [] more ms os small few b c = ran_none names home v number more _ c (subst (λ (os : List ℕ). Built IsFront (gathered ms os []) v) (sym (append-nil os)) b)
+  observers_run home v number [] more ms os small few b c = ran_none names home v _ more _ c (subst (λ (os : List ℕ). Built IsFront (gathered ms os []) v) (sym (append-nil os)) b)
   observers_run home v number (n ∷ counts) more ms os small few b c =
       let count = decimal n in
       let w = record v { observers = v.observers ++ number_value count ∷ []; place = Observing } in
-      let most = small.0.1 in
-      let value : number_value count ≡ n = (decimal-writes n (omega (arith, most))).value in
+      let value : number_value count ≡ n = (decimal-writes n (omega (arith, small.0.1))).value in
       let g = b.is in
       let len : length v.observers ≡ length os = ap (λ (g : Gathered). length g.observers) g in
-      let small_now : nat_le 4 (length v.observers) ≡ false = room_for (length v.observers) 4 (omega (arith, len, few)) in
+      let small_now : nat_le 4 (length v.observers) ≡ false = room_for (length v.observers) 4 (omega arith) in
       let step_is : step v number (observer count) ≡ Ok w = at_front v number count v.place b.place ∙ ap (λ t. cond {A = Result Known LineCause} t (Err (causes.Limit which.Observers)) (Ok w)) small_now in
-      let all : (os ++ n ∷ []) ++ counts ≡ os ++ n ∷ counts = append_assoc os (n ∷ []) counts in
       let built : Built IsFront (gathered ms (os ++ n ∷ []) []) w = record { place = tt; none_open = b.none_open; is = λ i. record (g i) { observers = (g i).observers ++ value i ∷ [] } } in
       ran_line names home v w number (observer count) (observer_form counts) more _ step_is
-      (subst (λ (xs : List ℕ). Ran names home w (number + 1) (observer_form counts) more (Built IsFront (gathered ms xs []))) all
-      (observers_run home w (number + 1) counts more ms (os ++ n ∷ []) small.1 (omega (arith, few, length-append os (n ∷ []))) built (coming_next names home v w (observer count) (observer_form counts ++ more) c refl refl)))
+      (subst (λ (xs : List ℕ). Ran names home w (number + 1) (observer_form counts) more (Built IsFront (gathered ms xs []))) (append_assoc os (n ∷ []) counts)
+      (observers_run home w (number + 1) counts more ms (os ++ n ∷ []) small.1 (omega (arith, length-append os (n ∷ []))) built (coming_next names home v w (observer count) (observer_form counts ++ more) c refl refl)))
 
   -- ---- commands
 
   fewer : (some : Texts) → Extends some names → length some ≤ 4096
-  fewer some e = let len : length names ≡ length (some ++ e.more) = ap (λ (l : Texts). length l) e.whole in omega (arith, len, length-append some e.more, room)
+  fewer some e = let len : length names ≡ length (some ++ e.more) = ap (λ (l : Texts). length l) e.whole in omega (arith, length-append some e.more, room)
 
   -- a command that is told by its line is not refused
   command_runs : (v : Known) (number : ℕ) (ms : List Module) (c : ScriptCmd) → IsToldBy names ms c → v.place ≡ Loading → Extends (names_with_all v.names (script_line_atoms (command_line names c))) names → length (counted_with v.functions (spawned_in (names_with_all v.names (script_line_atoms (command_line names c))) (command_line names c))) ≤ 1024 → v.processes + spawned (command_line names c) ≤ 64
@@ -326,26 +322,22 @@ module _ (names : Texts) (room : length names ≤ 4096) where
       let after = names_with_all v.names (script_line_atoms line) in
       let narrow = t.line.narrow in
       let brief = t.line.brief in
-      let small : nat_lt 4096 (length after) ≡ false = le-ltb 4096 (length after) (fewer after e) in
-      ap (λ (p : Place). step_at v number p line) place
-      ∙ in_block v number line t.is
+      let small : nat_lt 4096 (length after) ≡ false = le-ltb 4096 _ (fewer after e) in
+      ap (λ (p : Place). step_at v number p line) place ∙ in_block v _ line t.is
       ∙ (λ i. cond (narrow i) (Err (causes.Limit which.Integer)) (cond (brief i) (Err (causes.Limit which.Term)) (cond (small i) (Err (causes.Limit which.Names)) (Ok after) >>= step_named v number line)))
       ∙ ap (λ (x : Result (List Mfa) LineCause). x >>= λ functions. processes_with v.processes line >>= λ processes. Ok (with_command v number line functions processes)) (added_few v.functions (spawned_in after line) few_fs)
-      ∙ ap (λ (x : Result ℕ LineCause). x >>= λ processes. Ok (with_command v number line (counted_with v.functions (spawned_in after line)) processes)) (processes_run v.processes line few_ps)
+      ∙ ap (λ (x : Result ℕ LineCause). x >>= λ processes. Ok (with_command v number line (counted_with v.functions (spawned_in after line)) processes)) (processes_run _ line few_ps)
 
   own_more : (ls : List (List ScriptCmd)) (own : List ScriptCmd) (c : ScriptCmd) → sum_by spawn_count (ls ++ (own ++ c ∷ []) ∷ []) ≡ sum_by spawn_count (ls ++ own ∷ []) + spawns_in c
   own_more ls own c =
       let a = sum_by-append spawn_count ls ((own ++ c ∷ []) ∷ []) in
       let b = sum_by-append spawn_count ls (own ∷ []) in
       let d = sum_by-cons spawn_count (own ++ c ∷ []) [] in
-      let f = sum_by-cons spawn_count own [] in
-      let g = sum_by-append spawns_in own (c ∷ []) in
-      let h = sum_by-cons spawns_in c [] in
-      omega (arith, a, b, d, f, g, h)
+      omega (arith, sum_by-cons spawn_count own [], sum_by-append spawns_in own (c ∷ []), sum_by-cons spawns_in c [])
 
   commands_run : (home : List ℕ) (v : Known) (number : ℕ) (todo : List ScriptCmd) (more : List ScriptLine) (ms : List Module) (os : List ℕ) (ls : List (List ScriptCmd)) (own : List ScriptCmd) → AllByRecursion (IsToldBy names ms) todo → sum_by spawn_count (ls ++ own ∷ []) + spawn_count todo ≤ 64 → Built (λ p. p ≡ Loading) (gathered ms os (ls ++ own ∷ [])) v → Coming names home v (map (command_line names) todo ++ more)
       → Ran names home v number (map (command_line names) todo) more (Built (λ p. p ≡ Loading) (gathered ms os (ls ++ (own ++ todo) ∷ [])))
-  commands_run home v number [] more ms os ls own are few b c = ran_none names home v number more _ c (subst (λ (cs : List ScriptCmd). Built (λ p. p ≡ Loading) (gathered ms os (ls ++ cs ∷ [])) v) (sym (append-nil own)) b)
+  commands_run home v number [] more ms os ls own are few b c = ran_none names home v _ more _ c (subst (λ (cs : List ScriptCmd). Built (λ p. p ≡ Loading) (gathered ms os (ls ++ cs ∷ [])) v) (sym (append-nil own)) b)
   commands_run home v number (cmd ∷ todo) more ms os ls own are few b c =
       let t = are.0 in
       let line = command_line names cmd in
@@ -355,7 +347,7 @@ module _ (names : Texts) (room : length names ≤ 4096) where
       let held = held_all v.names (script_line_atoms line) in
       let fs = counted_with v.functions (spawned_in after line) in
       let functions = counted_command after names v.functions home line e held t.is in
-      let few_fs : length fs ≤ 1024 = let now = few_now names home v line (lines ++ more) c in omega (arith, ap length functions, now) in
+      let few_fs : length fs ≤ 1024 = let now = few_now names home v line (lines ++ more) c in omega (arith, ap length functions) in
       let one = one_command names line t.is in
       let says : commands_on after line ≡ cmd ∷ [] = sym (same_commands after names line e held) ∙ t.says in
       let itself : one.command ≡ cmd = let both : one.command ∷ [] ≡ cmd ∷ [] = sym one.is ∙ t.says in cc in
@@ -364,18 +356,17 @@ module _ (names : Texts) (room : length names ≤ 4096) where
       let count : v.processes ≡ sum_by spawn_count (ls ++ own ∷ []) = ap (λ (g : Gathered). g.processes) g in
       let todo_sum = sum_by-cons spawns_in cmd todo in
       let ps = v.processes + spawned line in
-      let few_ps : ps ≤ 64 = omega (arith, count, spawns, few, todo_sum) in
       let w = with_command v number line fs ps in
       let place = b.place in
-      let sums : ps ≡ sum_by spawn_count (ls ++ (own ++ cmd ∷ []) ∷ []) = let more = own_more ls own cmd in omega (arith, count, spawns, more) in
+      let sums : ps ≡ sum_by spawn_count (ls ++ (own ++ cmd ∷ []) ∷ []) = let more = own_more ls own cmd in omega arith in
       let titles : v.titles ≡ map ref_of ms = ap (λ (g : Gathered). g.titles) g in
       let given : loads_given v.titles after line ≡ true = ap (λ (ts : List ModRef). loads_given ts after line) titles ∙ sym (same_given (map ref_of ms) after names line e held) ∙ t.line.given in
       let loaders = ap (λ (l : List (List ScriptCmd)). fold onto_last l (commands_on after line)) (ap (λ (g : Gathered). g.loaders) g) ∙ ap (fold onto_last (ls ++ own ∷ [])) says ∙ onto_last-snoc ls own cmd in
       let unknown : w.unknown ≡ None = ap (λ t. cond t v.unknown (or_else v.unknown (Some number))) given ∙ ap (λ (g : Gathered). g.unknown) g in
       let built : Built (λ p. p ≡ Loading) (gathered ms os (ls ++ (own ++ cmd ∷ []) ∷ [])) w = record { place = place; none_open = b.none_open; is = λ i. record { modules = (g i).modules; titles = (g i).titles; observers = (g i).observers; loaders = loaders i; processes = sums i; unknown = unknown i } } in
       let all : (own ++ cmd ∷ []) ++ todo ≡ own ++ cmd ∷ todo = append_assoc own (cmd ∷ []) todo in
-      let rest_few : sum_by spawn_count (ls ++ (own ++ cmd ∷ []) ∷ []) + spawn_count todo ≤ 64 = let more = own_more ls own cmd in omega (arith, more, few, todo_sum) in
-      ran_line names home v w number line lines more _ (command_runs v number ms cmd t place e few_fs few_ps)
+      let rest_few : sum_by spawn_count (ls ++ (own ++ cmd ∷ []) ∷ []) + spawn_count todo ≤ 64 = let more = own_more ls own cmd in omega arith in
+      ran_line names home v w number line lines more _ (command_runs v number ms cmd t place e few_fs (omega arith))
       (subst (λ (cs : List ScriptCmd). Ran names (home_after home line) w (number + 1) lines more (Built (λ p. p ≡ Loading) (gathered ms os (ls ++ cs ∷ [])))) all
       (commands_run (home_after home line) w (number + 1) todo more ms os ls (own ++ cmd ∷ []) are.1 rest_few built (coming_next names home v w line (lines ++ more) c refl functions)))
 
@@ -386,20 +377,19 @@ module _ (names : Texts) (room : length names ≤ 4096) where
   block_runs home v number cs more ms os ls are few few_ps b c =
       let w = record v { loaders = v.loaders ++ [] ∷ []; place = Loading } in
       let g = b.is in
-      let len : length v.loaders ≡ length ls = ap (λ (g : Gathered). length g.loaders) g in
-      let small : nat_le 8 (length v.loaders) ≡ false = room_for (length v.loaders) 8 (omega (arith, len, few)) in
+      let small : nat_le 8 (length v.loaders) ≡ false = room_for (length v.loaders) 8 (omega (arith, (ap (λ (g : Gathered). length g.loaders) g))) in
       let step_is : step v number loader ≡ Ok w = at_block v number v.place b.place ∙ ap (λ t. cond {A = Result Known LineCause} t (Err (causes.Limit which.Loaders)) (Ok w)) small in
-      let none : sum_by spawn_count ls ≡ sum_by spawn_count (ls ++ [] ∷ []) = let a = sum_by-append spawn_count ls ([] ∷ []) in let d = sum_by-cons spawn_count [] [] in omega (arith, a, d) in
+      let none : sum_by spawn_count ls ≡ sum_by spawn_count (ls ++ [] ∷ []) = let a = sum_by-append spawn_count ls ([] ∷ []) in let d = sum_by-cons spawn_count [] [] in omega arith in
       let built : Built (λ p. p ≡ Loading) (gathered ms os (ls ++ [] ∷ [])) w = record { place = refl; none_open = b.none_open; is = λ i. record (g i) { loaders = (g i).loaders ++ [] ∷ []; processes = (ap (λ (g : Gathered). g.processes) g ∙ none) i } } in
       ran_line names home v w number loader (map (command_line names) cs) more _ step_is
-      (commands_run home w (number + 1) cs more ms os ls [] are (omega (arith, few_ps, none)) built (coming_next names home v w loader (map (command_line names) cs ++ more) c refl refl))
+      (commands_run home w (number + 1) cs more ms os ls [] are (omega arith) built (coming_next names home v w loader (map (command_line names) cs ++ more) c refl refl))
 
   coming_parts : (home : List ℕ) (v : Known) (xs ys more : List ScriptLine) → Coming names home v ((xs ++ ys) ++ more) → Coming names home v (xs ++ (ys ++ more))
   coming_parts home v xs ys more c = subst (Coming names home v) (append_assoc xs ys more) c
 
   blocks_run : (home : List ℕ) (v : Known) (number : ℕ) (todo : List (List ScriptCmd)) (more : List ScriptLine) (ms : List Module) (os : List ℕ) (ls : List (List ScriptCmd)) → AllByRecursion (AllByRecursion (IsToldBy names ms)) todo → length ls + length todo ≤ 8 → sum_by spawn_count ls + sum_by spawn_count todo ≤ 64 → Built IsOutside (gathered ms os ls) v → Coming names home v (flat_map (block_form names) todo ++ more)
       → Ran names home v number (flat_map (block_form names) todo) more (Built IsOutside (gathered ms os (ls ++ todo)))
-  blocks_run home v number [] more ms os ls are few few_ps b c = ran_none names home v number more _ c (subst (λ (ls : List (List ScriptCmd)). Built IsOutside (gathered ms os ls) v) (sym (append-nil ls)) b)
+  blocks_run home v number [] more ms os ls are few few_ps b c = ran_none names home v _ more _ c (subst (λ (ls : List (List ScriptCmd)). Built IsOutside (gathered ms os ls) v) (sym (append-nil ls)) b)
   blocks_run home v number (cs ∷ todo) more ms os ls are few few_ps b c =
       let block = block_form names cs in
       let rest = flat_map (block_form names) todo in
@@ -408,11 +398,10 @@ module _ (names : Texts) (room : length names ≤ 4096) where
       let d = sum_by-append spawn_count ls (cs ∷ []) in
       let f = sum_by-cons spawn_count cs [] in
       ran_append names home v number block rest more (Built (λ p. p ≡ Loading) (gathered ms os (ls ++ cs ∷ []))) (Built IsOutside (gathered ms os (ls ++ cs ∷ todo)))
-      (block_runs home v number cs (rest ++ more) ms os ls are.0 (omega (arith, few)) (omega (arith, few_ps, a)) b (coming_parts home v block rest more c))
-      (λ w built coming.
+      (block_runs home v number cs (rest ++ more) ms os ls are.0 (omega arith) (omega arith) b (coming_parts home v block rest more c)) (λ w built coming.
       let place = built.place in
       subst (λ (xs : List (List ScriptCmd)). Ran names (home_of home block) w (length block + number) rest more (Built IsOutside (gathered ms os xs))) all
-      (blocks_run (home_of home block) w (length block + number) todo more ms os (ls ++ cs ∷ []) are.1 (omega (arith, few, length-append ls (cs ∷ []))) (omega (arith, few_ps, a, d, f)) (record { place = subst IsOutside (sym place) tt; none_open = built.none_open; is = built.is }) coming))
+      (blocks_run (home_of home block) w (length block + number) todo more ms os (ls ++ cs ∷ []) are.1 (omega (arith, length-append ls (cs ∷ []))) (omega arith) (record { place = subst IsOutside (sym place) tt; none_open = built.none_open; is = built.is }) coming))
 
 -- ---- a whole script
 

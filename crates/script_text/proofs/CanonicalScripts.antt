@@ -6,7 +6,7 @@ use Rattle.script_text.proofs.Common.{false_from_ne_true, cases_lt, nat_tests, f
 use Rattle.std.specs.Fmt.{decimal}
 use Rattle.script_text.proofs.Texts.{given_names, names_with_all, Lines, lines_of_text, is_number_text, number_value}
 use Rattle.script_text.proofs.Texts.{each_append, lacks, number_lacks, decimal-writes, test_not_lt}
-use Rattle.script_text.proofs.Modules.{IsModuleHeld, IsModule, names_after, LineForm, line_bytes, lines_written, FollowOn, line_lacks}
+use Rattle.script_text.proofs.Modules.{IsModuleHeld, IsModule, names_after, LineForm, lines_written, FollowOn, line_lacks}
 use Rattle.script_text.proofs.Types.{Module, Script, ScriptCmd}
 use Rattle.mod_text.specs.Canonical.{canonical as module_lines}
 use Rattle.script_text.proofs.Forms.{ScriptLine, head, code, observer, go, script_line_written, is_script_line, counted_names, opening, script_of}
@@ -41,16 +41,15 @@ texts_good : (names : Texts) (texts : List (List LineForm)) (more : List ScriptL
 texts_good names [] more closed good = good
 texts_good names (text ∷ texts) more closed good =
     let others = flat_map (λ (t : List LineForm). t) texts in
-    let c = closed.0 in
-    subst AreGood (sym (ap (λ (ls : List ScriptLine). ls ++ more) (map-append (λ l. code l) text others) ∙ append_assoc (code_form text) (code_form others) more))
-    (each_append IsGood (code_form text) (code_form others ++ more) (follow_good c.before [] text c.follow) (texts_good names texts more closed.1 good))
+    subst AreGood (sym (ap (λ (ls : List ScriptLine). ls ++ more) (map-append (λ l. code l) text others) ∙ append_assoc _ _ more))
+    (each_append IsGood _ _ (follow_good _ [] text closed.0.follow) (texts_good names texts more closed.1 good))
 
 observers_good : (counts : List ℕ) → AllByRecursion (λ n. (0 < n) × (n ≤ 16)) counts → AreGood (observer_form counts)
 observers_good [] small = tt
 observers_good (n ∷ counts) small =
     let least = small.0.0 in
     let most = small.0.1 in
-    let w = decimal-writes n (omega (arith, most)) in (
+    let w = decimal-writes n (omega arith) in (
       record {
         sound = and_from (is_number_text (decimal n)) (nat_le 1 (number_value (decimal n)) && nat_le (number_value (decimal n)) 16) w.form
             (ap (λ (v : ℕ). nat_le 1 v && nat_le v 16) w.value ∙ and_from (nat_le 1 n) (nat_le n 16) (grind (arith, nat_tests, least)) (grind (arith, nat_tests, most)));
@@ -73,8 +72,8 @@ all_good s ready r =
     let seen = observer_form s.observers in
     let blocks = flat_map (block_form s.names) s.loaders in (
       record { sound = refl; lacks_feed = refl },
-      texts_good s.names r.texts (seen ++ (blocks ++ go ∷ [])) r.closed
-          (each_append IsGood seen (blocks ++ go ∷ []) (observers_good s.observers ready.sound.snapshots) (each_append IsGood blocks (go ∷ []) (blocks_good s.names s.modules s.loaders ready.told) (record { sound = refl; lacks_feed = refl }, tt))),
+      texts_good _ _ _ r.closed
+          (each_append IsGood seen _ (observers_good _ ready.sound.snapshots) (each_append IsGood _ _ (blocks_good _ _ _ ready.told) (record { sound = refl; lacks_feed = refl }, tt))),
     )
 
 all_sound : (lines : List ScriptLine) → AreGood lines → AllByRecursion (λ line. IsTrue (is_script_line line)) lines
@@ -94,23 +93,21 @@ not_longer n h = elim (cases_lt 1048576 n) [
 all_short : (forms : List ScriptLine) → list_any is_long_line (map script_line_written forms) ≡ false → AllByRecursion IsShort forms
 all_short [] none = tt
 all_short (line ∷ forms) none =
-    let p = or_parts (is_long_line (script_line_written line)) (list_any is_long_line (map script_line_written forms)) none in
-    (test_not_lt 4096 (length (script_line_written line)) p.0, all_short forms p.1)
+    let p = or_parts _ _ none in
+    (test_not_lt 4096 _ p.0, all_short forms p.1)
 
 -- ---- the bytes
 
 texts_written : (texts : List (List LineForm)) → lines_written (flat_map (λ text. text) texts) ≡ flat_map (λ text. lines_written text) texts
 texts_written [] = refl
-texts_written (text ∷ texts) = flat_map-append line_bytes text (flat_map (λ (t : List LineForm). t) texts) ∙ ap (λ (l : List ℕ). lines_written text ++ l) (texts_written texts)
+texts_written (text ∷ texts) = flat_map-append _ text (flat_map (λ (t : List LineForm). t) texts) ∙ ap (λ (l : List ℕ). lines_written text ++ l) (texts_written texts)
 
 bytes_are : (s : Script) (r : Readings s.names s.modules) → canonical_text s ≡ flat_map script_line_bytes (lines_with s (flat_map (λ text. text) r.texts))
 bytes_are s r =
     let rest = observer_form s.observers ++ (flat_map (block_form s.names) s.loaders ++ go ∷ []) in
-    let own = flat_map (λ (text : List LineForm). text) r.texts in
-    ap (λ (l : List ℕ). script_line_bytes head ++ l)
-    (codes_bytes (flat_map (module_lines s.names) s.modules) rest
-    ∙ ap (λ (l : List ℕ). l ++ flat_map script_line_bytes rest) (modules_written s.names s.modules ∙ r.spelled ∙ sym (texts_written r.texts))
-    ∙ sym (codes_bytes own rest))
+    ap (λ (l : List ℕ). script_line_bytes head ++ l) (codes_bytes _ rest
+    ∙ ap (λ (l : List ℕ). l ++ flat_map script_line_bytes rest) (modules_written _ _ ∙ r.spelled ∙ sym (texts_written r.texts))
+    ∙ sym (codes_bytes (flat_map (λ (text : List LineForm). text) r.texts) rest))
 
 -- ---- the text of a script
 
@@ -155,12 +152,11 @@ quiet_observers (n ∷ counts) = lines_append (observer (decimal n) ∷ []) [] (
 front_alike : (s : Script) → Alike (canonical s) (front_of s.names s.modules [] s.loaders)
 front_alike s =
     let written = flat_map (module_lines s.names) s.modules in
-    let seen = observer_form s.observers in
     let blocks = flat_map (block_form s.names) s.loaders in
-    let last : Alike (blocks ++ go ∷ []) blocks = subst (Alike (blocks ++ go ∷ [])) (append-nil blocks) (lines_append blocks blocks (go ∷ []) [] (lines_same blocks) (record { atoms = refl; homes = λ home. refl; functions = λ home. refl })) in
-    let first : Alike (head ∷ code_form written) (code_form written) = lines_append (head ∷ []) [] (code_form written) (code_form written) (record { atoms = refl; homes = λ home. refl; functions = λ home. refl }) (lines_same (code_form written)) in
-    subst (λ (ls : List LineForm). Alike (canonical s) (code_form ls ++ blocks)) (sym (append-nil written))
-    (lines_append (head ∷ code_form written) (code_form written) (seen ++ (blocks ++ go ∷ [])) blocks first (lines_append seen [] (blocks ++ go ∷ []) blocks (quiet_observers s.observers) last))
+    let last : Alike (blocks ++ go ∷ []) blocks = subst (Alike _) (append-nil _) (lines_append _ _ _ [] (lines_same _) (record { atoms = refl; homes = λ home. refl; functions = λ home. refl })) in
+    let first : Alike (head ∷ code_form written) (code_form written) = lines_append (head ∷ []) [] (code_form written) (code_form written) (record { atoms = refl; homes = λ home. refl; functions = λ home. refl }) (lines_same _) in
+    subst (λ (ls : List LineForm). Alike (canonical s) (code_form ls ++ blocks)) (sym (append-nil _))
+    (lines_append _ _ _ _ first (lines_append (observer_form s.observers) [] (blocks ++ go ∷ []) blocks (quiet_observers _) last))
 
 canonical_of_text : (text : List ℕ) (s : Script) (t : ScriptText text s) → (IsTooLongToPrint (script_of t.known) → ⊥) → ScriptText (canonical_text (script_of t.known)) (script_of t.known)
 canonical_of_text text s t =

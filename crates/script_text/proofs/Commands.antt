@@ -9,13 +9,13 @@ use Rattle.script_text.proofs.Texts.{EachLeaf, EachInRow, map_row, atoms_of, row
 use Rattle.script_text.proofs.Texts.{WrittenTerm, IsTermInteger, IntegersFit, integer_of, HasNumber, slice_get-number_of, plain-term_of, lacks}
 use Rattle.script_text.proofs.Texts.{test_not_lt, IsNames, names_with, names_with_all, names_with-IsNames}
 use Rattle.term_core.proofs.LeafFacts.{term_words-map}
-use Rattle.script_text.proofs.Modules.{is_version_text, is_arity_text, is_function_form, atom_in, IsTermOf, IsCmdOf, spawns_in, last_line}
-use Rattle.script_text.proofs.Modules.{unsettled_line, are_atoms, both_atoms, line_atoms_are, names_with_all-append, more_names_all, spawn_count}
+use Rattle.script_text.proofs.Modules.{is_arity_text, atom_in, IsTermOf, IsCmdOf, spawns_in}
+use Rattle.script_text.proofs.Modules.{are_atoms, both_atoms, line_atoms_are, names_with_all-append, more_names_all, spawn_count}
 use Rattle.server_core.specs.CommandTable.{text_of}
 use Rattle.script_text.proofs.Forms.{RefForm, AtomCommand, delete, ScriptLine, load, on_atom, put, trace, spawn, go, script_line_written}
 use Rattle.script_text.proofs.Forms.{is_ref_form, is_term_form, is_script_line, script_line_atoms, is_wide, is_long, is_wide_term, is_long_term}
-use Rattle.script_text.proofs.Forms.{ref_in, argument_in, command_of, commands_on, ref_form, term_form, command_line, is_same_mod_ref, is_among}
-use Rattle.script_text.proofs.Forms.{loads_given, processes_with, code, Known, is_text_end, closed_by, step, steps, ◌>>=◌}
+use Rattle.script_text.proofs.Forms.{ref_in, argument_in, command_of, commands_on, ref_form, term_form, command_line, is_among}
+use Rattle.script_text.proofs.Forms.{loads_given, processes_with, code, Known, closed_by, step, steps, ◌>>=◌}
 use Rattle.script_text.proofs.StepMoves.{ok_is, IsCommand, with_line, Move, writes, moves, AreSound, bind_ok, steps-append}
 use Rattle.script_text.proofs.HeldNames.{number_is, number_in-after, Extends-all}
 use Rattle.script_text.proofs.ModuleNames.{AreHeld, held_first, held_second}
@@ -39,13 +39,13 @@ record IsSpawnLine (m f : List ℕ) (args : List WrittenTerm) : Type 0 where
 
 spawn_line : (m f : List ℕ) (args : List WrittenTerm) → is_script_line (spawn m f args) ≡ true → IsSpawnLine m f args
 spawn_line m f args h =
-    let first = and_parts (is_atom_text m) (is_atom_text f && (nat_le (length args) 15 && list_all is_term_form args)) h in
-    let second = and_parts (is_atom_text f) (nat_le (length args) 15 && list_all is_term_form args) first.1 in
-    let third = and_parts (nat_le (length args) 15) (list_all is_term_form args) second.1 in
+    let first = and_parts _ _ h in
+    let second = and_parts _ _ first.1 in
+    let third = and_parts _ _ second.1 in
     record { module_is = first.0; name_is = second.0; few = third.0; args_are = third.1 }
 
 trace_arity : (f g arity : List ℕ) (on : Bool) → is_script_line (trace f g arity on) ≡ true → is_arity_text arity ≡ true
-trace_arity f g arity on h = (and_parts (is_atom_text g) (is_arity_text arity) (and_parts (is_atom_text f) (is_function_form g arity) h).1).1
+trace_arity f g arity on h = (and_parts _ _ (and_parts _ _ h).1).1
 
 some_refs : (refs : List RefForm) → is_script_line (load refs) ≡ true → (0 < length refs) × (list_all is_ref_form refs ≡ true)
 some_refs [] h = absurd cc
@@ -53,7 +53,7 @@ some_refs (r ∷ refs) h = (omega arith, h)
 
 arguments_held : (names : Texts) (args : List WrittenTerm) → AreHeld names (flat_map atoms_of args) → AllByRecursion (λ arg. AreHeld names (atoms_of arg)) args
 arguments_held names [] h = tt
-arguments_held names (arg ∷ args) h = let p = each_first (HasNumber names) (atoms_of arg) (flat_map atoms_of args) h in (p.0, arguments_held names args p.1)
+arguments_held names (arg ∷ args) h = let p = each_first _ _ _ h in (p.0, arguments_held names args p.1)
 
 pub each_map : {X Y : Type 0} (P : Y → Type 0) (f : X → Y) (xs : List X) → AllByRecursion (λ x. P (f x)) xs → AllByRecursion P (map f xs)
 each_map P f [] h = tt
@@ -65,7 +65,7 @@ abbrev pub ref_of : Module → ModRef
 ref_of m = record { name = m.name; version = m.version }
 
 pub flipped : (a b : ℕ) → (a == b) ≡ (b == a)
-flipped a b = by_tests (a == b) (b == a) refl refl
+flipped a b = by_tests _ _ refl refl
   where
     by_tests : (p q : Bool) → (a == b) ≡ p → (b == a) ≡ q → p ≡ q
     by_tests true true e f = refl
@@ -77,9 +77,7 @@ flipped a b = by_tests (a == b) (b == a) refl refl
 found_is : (texts : List Module) (r : ModRef) → is_some (text_of texts r) ≡ is_among (map ref_of texts) r
 found_is [] r = refl
 found_is (m ∷ texts) r =
-    let name = flipped m.name.0 r.name.0 in
-    let version = flipped m.version r.version in
-    (λ i. is_some (cond (name i && version i) (Some m) (text_of texts r))) ∙ by_test (is_same_mod_ref r (ref_of m)) (found_is texts r)
+    (λ i. is_some (cond ((flipped m.name.0 r.name.0) i && (flipped m.version r.version) i) (Some m) (text_of texts r))) ∙ by_test _ (found_is texts r)
   where
     by_test : (t : Bool) → is_some (text_of texts r) ≡ is_among (map ref_of texts) r → is_some (cond t (Some m) (text_of texts r)) ≡ (t || is_among (map ref_of texts) r)
     by_test true rest = refl
@@ -88,7 +86,7 @@ found_is (m ∷ texts) r =
 pub given_found : (texts : List Module) (rs : List ModRef) → list_all (is_among (map ref_of texts)) rs ≡ true → AllByRecursion (λ r. IsTrue (is_some (text_of texts r))) rs
 given_found texts [] h = tt
 given_found texts (r ∷ rs) h =
-    let p = and_parts (is_among (map ref_of texts) r) (list_all (is_among (map ref_of texts)) rs) h in
+    let p = and_parts _ _ h in
     (found_is texts r ∙ p.0, given_found texts rs p.1)
 
 -- ---- what is said can be made
@@ -102,7 +100,7 @@ pub record IsLineOf (names : Texts) (texts : List Module) (line : ScriptLine) : 
   pub given : loads_given (map ref_of texts) names line ≡ true
 
 held_below : (names : Texts) (text : List ℕ) → HasNumber names text → number_in names text < length names
-held_below names text h = let within = slice_get_within names h.number text (slice_get-number_of names text h.number h.is) in omega (arith, within, number_is names text h)
+held_below names text h = let within = slice_get_within names _ text (slice_get-number_of names text _ h.is) in omega (arith, number_is names text h)
 
 mutual
   -- its atoms have names
@@ -114,19 +112,19 @@ mutual
 
   held_row : (names : Texts) (row : RowOf (List ℕ) (List ℕ)) → EachInRow (λ text. IsTermInteger (integer_of text)) (λ _. Unit {0}) row → AreHeld names (row_atoms row) → EachInRow IsTermInteger (λ atom. atom < length names) (map_row integer_of (number_in names) row)
   held_row names no_terms fits held = tt
-  held_row names (term_then t row) fits held = (held_leaves names t fits.0 (held_first names (atoms_of t) (row_atoms row) held), held_row names row fits.1 (held_second names (atoms_of t) (row_atoms row) held))
+  held_row names (term_then t row) fits held = (held_leaves names t fits.0 (held_first names _ _ held), held_row names row fits.1 (held_second names _ _ held))
 
 argument_is : (names : Texts) (arg : WrittenTerm) → is_wide_term arg ≡ false → is_long_term arg ≡ false → AreHeld names (atoms_of arg) → IsTermOf names (argument_in names arg)
 argument_is names arg narrow brief held = record {
   leaves = held_leaves names arg (narrow_fits arg narrow) held;
-  short = let same = term_words-map integer_of (number_in names) arg in let few = test_not_lt 64 (term_words arg) brief in omega (arith, same, few);
+  short = let same = term_words-map integer_of (number_in names) arg in let few = test_not_lt 64 (term_words arg) brief in omega arith;
 }
 
 arguments_are : (names : Texts) (args : List WrittenTerm) → list_any is_wide_term args ≡ false → list_any is_long_term args ≡ false → AllByRecursion (λ arg. AreHeld names (atoms_of arg)) args → AllByRecursion (λ arg. IsTermOf names (argument_in names arg)) args
 arguments_are names [] narrow brief held = tt
 arguments_are names (arg ∷ args) narrow brief held =
-    let n = or_parts (is_wide_term arg) (list_any is_wide_term args) narrow in
-    let b = or_parts (is_long_term arg) (list_any is_long_term args) brief in
+    let n = or_parts _ _ narrow in
+    let b = or_parts _ _ brief in
     (argument_is names arg n.0 b.0 held.0, arguments_are names args n.1 b.1 held.1)
 
 at_most : (n : ℕ) → nat_le n 15 ≡ true → n ≤ 15
@@ -139,10 +137,10 @@ module _ (names : Texts) where
 
   command_is : (texts : List Module) (line : ScriptLine) → IsLineOf names texts line → AllByRecursion (IsCmdOf names texts) (commands_on names line)
   command_is texts (load refs) l = (
-    record { some = let some = (some_refs refs l.sound).0 in omega (arith, some, length-map refs (ref_in names)); given = given_found texts (map (ref_in names) refs) l.given },
+    record { some = let some = (some_refs refs l.sound).0 in omega (arith, length-map refs (ref_in names)); given = given_found texts (map (ref_in names) refs) l.given },
     tt,
   )
-  command_is texts (on_atom command name) l = (named_is texts command name l.held.0, tt)
+  command_is texts (on_atom command name) l = (named_is texts _ name l.held.0, tt)
   command_is texts (put key term) l = (
     record { key_named = held_below names key l.held.0; is_term = subst (IsTermOf names) (sym (plain-term_of (argument_in names term))) (argument_is names term l.narrow l.brief l.held.1) },
     tt,
@@ -160,9 +158,9 @@ module _ (names : Texts) where
         record {
           module_named = held_below names m l.held.0;
           name_named = held_below names f l.held.1.0;
-          arity_is = sym (length-map args (argument_in names));
-          few = at_most (length args) s.few;
-          each = each_map (IsTermOf names) (argument_in names) args (arguments_are names args l.narrow l.brief (arguments_held names args l.held.1.1));
+          arity_is = sym (length-map args _);
+          few = at_most _ s.few;
+          each = each_map _ _ args (arguments_are names args l.narrow l.brief (arguments_held names args l.held.1.1));
         },
         tt,
       )
@@ -173,20 +171,18 @@ module _ (names : Texts) where
   refs_again : (refs : List RefForm) → list_all is_ref_form refs ≡ true → AreHeld names (map (λ r. r.name) refs) → map (ref_form names) (map (ref_in names) refs) ≡ refs
   refs_again [] form held = refl
   refs_again (r ∷ refs) form held =
-      let p = and_parts (is_ref_form r) (list_all is_ref_form refs) form in
-      let n = atom_again names r.name held.0 in
-      let v = version_again r.version (and_parts (is_atom_text r.name) (is_version_text r.version) p.0).1 in
+      let p = and_parts _ _ form in
+      let n = atom_again names _ held.0 in
+      let v = version_again _ (and_parts _ _ p.0).1 in
       let more = refs_again refs p.1 held.1 in
       λ k. record { name = n k; version = v k } ∷ more k
 
   arguments_again : (args : List WrittenTerm) → list_all is_term_form args ≡ true → list_any is_wide_term args ≡ false → AllByRecursion (λ arg. AreHeld names (atoms_of arg)) args → map (term_form names) (map (argument_in names) args) ≡ args
   arguments_again [] form narrow held = refl
   arguments_again (arg ∷ args) form narrow held =
-      let f = and_parts (is_term_form arg) (list_all is_term_form args) form in
-      let n = or_parts (is_wide_term arg) (list_any is_wide_term args) narrow in
-      let first = term_again names arg f.0 (narrow_fits arg n.0) held.0 in
-      let more = arguments_again args f.1 n.1 held.1 in
-      λ k. first k ∷ more k
+      let f = and_parts _ _ form in
+      let n = or_parts _ _ narrow in
+      λ k. (term_again names arg f.0 (narrow_fits arg n.0) held.0) k ∷ (arguments_again args f.1 n.1 held.1) k
 
   command_again : (command : AtomCommand) (name : List ℕ) → HasNumber names name → command_line names (command_of command (atom_in names name)) ≡ on_atom command name
   command_again delete name held = ap (on_atom delete) (atom_again names name held)
@@ -194,23 +190,16 @@ module _ (names : Texts) where
 
   line_back : (texts : List Module) (line : ScriptLine) → IsCommand line → IsLineOf names texts line → map (command_line names) (commands_on names line) ≡ line ∷ []
   line_back texts (load refs) is l = ap (λ (rs : List RefForm). load rs ∷ []) (refs_again refs (some_refs refs l.sound).1 l.held)
-  line_back texts (on_atom command name) is l = ap (λ (line : ScriptLine). line ∷ []) (command_again command name l.held.0)
+  line_back texts (on_atom command name) is l = ap (λ (line : ScriptLine). line ∷ []) (command_again _ name l.held.0)
   line_back texts (put key term) is l =
       let p = atom_again names key l.held.0 in
-      let form = (and_parts (is_atom_text key) (is_term_form term) l.sound).1 in
-      let t = ap (term_form names) (plain-term_of (argument_in names term)) ∙ term_again names term form (narrow_fits term l.narrow) l.held.1 in
-      λ k. put (p k) (t k) ∷ []
+      λ k. put (p k) ((ap (term_form names) (plain-term_of _) ∙ term_again names term ((and_parts _ _ l.sound).1) (narrow_fits term l.narrow) l.held.1) k) ∷ []
   line_back texts (trace f g arity on) is l =
-      let p = atom_again names f l.held.0 in
-      let q = atom_again names g l.held.1.0 in
-      let n = arity_again arity (trace_arity f g arity on l.sound) in
-      λ k. trace (p k) (q k) (n k) on ∷ []
+      λ k. trace ((atom_again names f l.held.0) k) ((atom_again names g l.held.1.0) k) ((arity_again arity (trace_arity f g arity on l.sound)) k) on ∷ []
   line_back texts (spawn m f args) is l =
       let s = spawn_line m f args l.sound in
       let p = atom_again names m l.held.0 in
-      let q = atom_again names f l.held.1.0 in
-      let r = arguments_again args s.args_are l.narrow (arguments_held names args l.held.1.1) in
-      λ k. spawn (p k) (q k) (r k) ∷ []
+      λ k. spawn (p k) ((atom_again names f l.held.1.0) k) ((arguments_again args s.args_are l.narrow (arguments_held names args l.held.1.1)) k) ∷ []
   line_back texts line is l = absurd is
 
   -- ---- and stays as the names grow
@@ -218,17 +207,13 @@ module _ (names : Texts) where
   refs_after : (after : Texts) (refs : List RefForm) → Extends names after → AreHeld names (map (λ (r : RefForm). r.name) refs) → map (ref_in after) refs ≡ map (ref_in names) refs
   refs_after after [] e h = refl
   refs_after after (r ∷ refs) e h =
-      let here = number_in-after names after r.name e h.0 in
-      let rest = refs_after after refs e h.1 in
-      λ i. record { name = record { 0 = here i }; version = number_value r.version } ∷ rest i
+      λ i. record { name = record { 0 = (number_in-after names after _ e h.0) i }; version = number_value r.version } ∷ (refs_after after refs e h.1) i
 
   pub same_commands : (after : Texts) (line : ScriptLine) → Extends names after → AreHeld names (script_line_atoms line) → commands_on after line ≡ commands_on names line
   same_commands after (load refs) e held = ap (λ (rs : List ModRef). Load rs ∷ []) (refs_after after refs e held)
   same_commands after (on_atom c n) e held = ap (λ (k : ℕ). let atom : AtomId = record { 0 = k } in command_of c atom ∷ []) (number_in-after names after n e held.0)
   same_commands after (put key t) e held =
-      let k = number_in-after names after key e held.0 in
-      let u = term_after names after t e held.1 in
-      λ i. Put (record { 0 = k i }) (term_of (u i)) ∷ []
+      λ i. Put (record { 0 = (number_in-after names after key e held.0) i }) (term_of ((term_after names after t e held.1) i)) ∷ []
   same_commands after (trace n f arity on) e held =
       let p = number_in-after names after n e held.0 in
       let q = number_in-after names after f e held.1.0 in
@@ -236,8 +221,7 @@ module _ (names : Texts) where
   same_commands after (spawn n f args) e held =
       let p = number_in-after names after n e held.0 in
       let q = number_in-after names after f e held.1.0 in
-      let us = terms_after names after args e held.1.1 in
-      λ i. Spawn (record { «module» = record { 0 = p i }; name = record { 0 = q i }; arity = length args }) (us i) ∷ []
+      λ i. Spawn (record { «module» = record { 0 = p i }; name = record { 0 = q i }; arity = length args }) ((terms_after names after args e held.1.1) i) ∷ []
   same_commands after line e held = refl
 
 -- so does what it loads
@@ -263,7 +247,7 @@ no_spawn command atom = refl
 
 pub one_command : (names : Texts) (line : ScriptLine) → IsCommand line → IsOne names line
 one_command names (load refs) is = record { command = _; is = refl; spawns = refl }
-one_command names (on_atom command name) is = record { command = command_of command (atom_in names name); is = refl; spawns = no_spawn command (atom_in names name) }
+one_command names (on_atom command name) is = record { command = command_of command (atom_in names name); is = refl; spawns = no_spawn _ _ }
 one_command names (put key t) is = record { command = _; is = refl; spawns = refl }
 one_command names (trace m f arity on) is = record { command = _; is = refl; spawns = refl }
 one_command names (spawn m f args) is = record { command = _; is = refl; spawns = refl }
@@ -271,15 +255,15 @@ one_command names line is = absurd is
 
 -- the processes after a line, where they were few enough
 pub processes_are : (n next : ℕ) (line : ScriptLine) → processes_with n line ≡ Ok next → n ≤ 64 → (next ≡ n + spawned line) × (next ≤ 64)
-processes_are n next (spawn m f args) e few = by_test (nat_le 64 n) refl e
+processes_are n next (spawn m f args) e few = by_test _ refl e
   where
     by_test : (t : Bool) → nat_le 64 n ≡ t → cond {A = Result ℕ LineCause} t (Err (causes.Limit which.Processes)) (Ok (n + 1)) ≡ Ok next → (next ≡ n + 1) × (next ≤ 64)
     by_test true full e = absurd cc
     by_test false room e =
-        let same = ok_is (n + 1) next e in
+        let same = ok_is _ next e in
         let small : n + 1 ≤ 64 = grind (arith, nat_tests) in
         (sym same, omega (arith, same, small))
-processes_are n next line e few = let same = ok_is n next e in (omega (arith, same), omega (arith, same, few))
+processes_are n next line e few = let same = ok_is n next e in (omega arith, omega arith)
 
 pub processes_run : (n : ℕ) (line : ScriptLine) → n + spawned line ≤ 64 → processes_with n line ≡ Ok (n + spawned line)
 processes_run n (spawn m f args) few =
@@ -297,7 +281,7 @@ pub record IsToldBy (names : Texts) (texts : List Module) (c : ScriptCmd) : Type
   pub lacks_feed : lacks 10 (script_line_written (command_line names c)) ≡ true
 
 pub told_command : (names : Texts) (texts : List Module) (c : ScriptCmd) → IsToldBy names texts c → IsCmdOf names texts c
-told_command names texts c t = (subst (AllByRecursion (IsCmdOf names texts)) t.says (command_is names texts (command_line names c) t.line)).0
+told_command names texts c t = (subst (AllByRecursion (IsCmdOf names texts)) t.says (command_is names texts _ t.line)).0
 
 abbrev first_line : List ScriptLine → ScriptLine
 first_line [] = go
@@ -306,7 +290,7 @@ first_line (line ∷ lines) = line
 module _ (names : Texts) (texts : List Module) (line : ScriptLine) (c : ScriptCmd) (is : IsCommand line) (l : IsLineOf names texts line) where
   -- a line that says a command is its line
   pub told_by_line : commands_on names line ≡ c ∷ [] → command_line names c ≡ line
-  told_by_line says = ap first_line (sym (ap (map (command_line names)) says) ∙ line_back names texts line is l)
+  told_by_line says = ap first_line (sym (ap (map _) says) ∙ line_back names texts line is l)
 
   pub is_told : lacks 10 (script_line_written line) ≡ true → commands_on names line ≡ c ∷ [] → command_line names c ≡ line → IsToldBy names texts c
   is_told feed says back =
@@ -329,19 +313,19 @@ closed_names s false o = refl
 
 -- the names after a line are those of the line too
 pub names_by : (s : Known) (number : ℕ) {line : ScriptLine} {next : Known} → Move s number line next → next.names ≡ names_with_all s.names (script_line_atoms line)
-names_by s number (writes line functions place is few) = let w = with_line s line functions in closed_names w (is_text_end (last_line w.lines)) (unsettled_line w.lines)
+names_by s number (writes line functions place is few) = let w = with_line s line functions in closed_names w _ _
 names_by s number m = refl
 
 pub grows_by : (s : Known) (number : ℕ) {line : ScriptLine} {next : Known} → Move s number line next → Extends s.names next.names
-grows_by s number {line} m = subst (Extends s.names) (sym (names_by s number m)) (Extends-all s.names (script_line_atoms line))
+grows_by s number {line} m = subst (Extends s.names) (sym (names_by s _ m)) (Extends-all _ (script_line_atoms line))
 
 -- ---- the atoms of a line
 
 refs_atoms : (refs : List RefForm) → list_all is_ref_form refs ≡ true → are_atoms (map (λ (r : RefForm). r.name) refs) ≡ true
 refs_atoms [] e = refl
 refs_atoms (r ∷ refs) e =
-    let p = and_parts (is_ref_form r) (list_all is_ref_form refs) e in
-    let atom = (and_parts (is_atom_text r.name) _ p.0).0 in
+    let p = and_parts _ _ e in
+    let atom = (and_parts _ _ p.0).0 in
     let rest = refs_atoms refs p.1 in
     λ i. atom i && rest i
 
@@ -355,13 +339,13 @@ atoms_are (put key t) h =
     let p = and_parts (is_atom_text key) (is_term_form t) h in
     both_atoms (key ∷ []) (atoms_of t) (λ i. p.0 i && true) (term_atoms_are t p.1)
 atoms_are (trace m f arity on) h =
-    let p = and_parts (is_atom_text m) (is_function_form f arity) h in
-    let q = and_parts (is_atom_text f) _ p.1 in
+    let p = and_parts _ _ h in
+    let q = and_parts _ _ p.1 in
     λ i. p.0 i && (q.0 i && true)
 atoms_are (spawn m f args) h =
-    let p = and_parts (is_atom_text m) (is_atom_text f && (nat_le (length args) 15 && list_all is_term_form args)) h in
-    let q = and_parts (is_atom_text f) (nat_le (length args) 15 && list_all is_term_form args) p.1 in
-    let s = and_parts (nat_le (length args) 15) (list_all is_term_form args) q.1 in
+    let p = and_parts (is_atom_text m) _ h in
+    let q = and_parts (is_atom_text f) _ p.1 in
+    let s = and_parts (nat_le (length args) 15) _ q.1 in
     both_atoms (m ∷ f ∷ []) (flat_map atoms_of args) (λ i. p.0 i && (q.0 i && true)) (terms_atoms_are args s.1)
 atoms_are line h = refl
 
@@ -369,7 +353,7 @@ names_all-IsNames : (names texts : Texts) → IsNames names → are_atoms texts 
 names_all-IsNames names [] sound h room = sound
 names_all-IsNames names (text ∷ texts) sound h room =
     let p = and_parts (is_atom_text text) (list_all is_atom_text texts) h in
-    let few : length (names_with names text) ≤ 4096 = omega (arith, room, more_names_all (names_with names text) texts) in
+    let few : length (names_with names text) ≤ 4096 = omega (arith, more_names_all (names_with names text) texts) in
     names_all-IsNames (names_with names text) texts (names_with-IsNames names text sound p.0 few) p.1 room
 
 -- ---- all lines
@@ -437,8 +421,7 @@ module _ (names : Texts) (home : List ℕ) (v : Known) (line : ScriptLine) (more
   few_now =
       let now = mfas_on names v.functions (script_line_functions home line) in
       let rest = functions_named (home_after home line) more in
-      let all = ap length (mfas_on-append names v.functions (script_line_functions home line) rest) in
-      omega (arith, all, c.few, mfas_more now (map (mfa_named names) rest))
+      omega (arith, ap length (mfas_on-append names v.functions (script_line_functions home line) rest), c.few, mfas_more now (map (mfa_named names) rest))
 
 -- ---- lines that run
 
@@ -455,7 +438,7 @@ module _ (names : Texts) (home : List ℕ) (v : Known) where
       let rest = functions_named (home_after home line) more in
       record {
         names_are = ap (λ (ns : Texts). names_with_all ns (flat_map script_line_atoms more)) named ∙ sym (names_with_all-append v.names (script_line_atoms line) (flat_map script_line_atoms more)) ∙ c.names_are;
-        few = let all = ap length (ap (λ fs. mfas_on names fs rest) functions ∙ sym (mfas_on-append names v.functions (script_line_functions home line) rest)) in omega (arith, all, c.few);
+        few = let all = ap length (ap (λ fs. mfas_on names fs rest) functions ∙ sym (mfas_on-append names v.functions (script_line_functions home line) rest)) in omega (arith, c.few);
       }
 
   pub ran_none : (number : ℕ) (more : List ScriptLine) (P : Known → Type 0) → Coming names home v more → P v → Ran names home v number [] more P
@@ -474,7 +457,7 @@ module _ (names : Texts) (home : List ℕ) (v : Known) where
       let s = go_on r.next r.holds r.coming in
       record {
         next = s.next;
-        steps_is = steps-append v number xs ys r.next r.steps_is ∙ s.steps_is;
+        steps_is = steps-append v _ xs ys _ r.steps_is ∙ s.steps_is;
         coming = subst (λ (h : List ℕ). Coming names h s.next more) (sym (home_of-append home xs ys)) s.coming;
         holds = s.holds;
       }

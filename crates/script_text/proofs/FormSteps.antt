@@ -4,12 +4,12 @@ use Rattle.std.proofs.Common.{Ok, Err, subst, arith, length-append, nat_le, ◌+
 use Rattle.script_text.proofs.Common.{Texts}
 use Rattle.script_text.proofs.Types.{LineFault, LineCause, Place, Unread, Between, Within, Observing, ScriptReader}
 use Rattle.script_text.proofs.Modules.{LineForm, header, label, instr, title, last_line, may_follow, fault_of_line, names_after, counted_name}
-use Rattle.script_text.proofs.Modules.{counted_by, line_reading, HeaderForm, IsTitled, headers_in, body_of, earlier, is_settled_line, unsettled_at}
+use Rattle.script_text.proofs.Modules.{counted_by, line_reading, HeaderForm, IsTitled, headers_in, body_of, earlier, unsettled_at}
 use Rattle.script_text.proofs.Modules.{unsettled_below, first_unsettled, unsettled_line, kept, judged, line_step, Step, line_is, text_again}
 use Rattle.script_text.proofs.TextLines.{titled_more}
 use Rattle.script_text.proofs.StepMoves.{ok_is}
 use Rattle.script_text.proofs.Texts.{number_of, number_in, cut_at, number_value, cut_is, cut_here, some_is, guarded, bytes_are}
-use Rattle.script_text.proofs.Forms.{RefForm, ScriptLine, head, code, observer, loader, go, is_snapshots_text}
+use Rattle.script_text.proofs.Forms.{RefForm, ScriptLine, head, code, observer, loader, go}
 use Rattle.script_text.proofs.Forms.{IsLine, ref_reading, titled, title_reading, or_syntax, ref_words}
 use Rattle.script_text.proofs.Forms.{◌>>=◌, ref_added, counted_added, by_code, step_titled, text_closed, code_judged, step_at}
 use Rattle.script_text.specs.Reading.{head_step, title_step, line_added, within_step, observer_step, between_by, observing_by}
@@ -44,26 +44,26 @@ suc_le : (m n : ℕ) → m ≤ n → suc m ≤ suc n
 suc_le m n h = omega arith
 
 short_body : (lines : List LineForm) → length (body_of lines) ≤ length lines
-short_body (label name ∷ lines) = suc_le (length (body_of lines)) (length lines) (short_body lines)
-short_body (instr i ∷ lines) = suc_le (length (body_of lines)) (length lines) (short_body lines)
+short_body (label name ∷ lines) = suc_le _ _ (short_body lines)
+short_body (instr i ∷ lines) = suc_le _ _ (short_body lines)
 short_body lines = omega arith
 
 module _ (headers : List HeaderForm) where
   in_body : (body lines : List LineForm) → Below (length lines) (unsettled_at headers body lines)
   in_body body [] = tt
-  in_body body (line ∷ lines) = by_test (is_settled_line headers body line) (in_body body lines)
+  in_body body (line ∷ lines) = by_test _ (in_body body lines)
     where
       by_test : (t : Bool) → Below (length lines) (unsettled_at headers body lines) → Below (suc (length lines)) (cond t (option_map suc (unsettled_at headers body lines)) (Some 0))
-      by_test true behind = next (length lines) _ behind
+      by_test true behind = next _ _ behind
       by_test false behind = omega arith
 
   below_header : (line : LineForm) (lines : List LineForm) → Below (length lines) (unsettled_below headers line lines)
-  below_header (header exported name arity) lines = wider (length (body_of lines)) (length lines) _ (short_body lines) (in_body (body_of lines) (body_of lines))
+  below_header (header exported name arity) lines = wider _ _ _ (short_body lines) (in_body (body_of lines) (body_of lines))
   below_header line lines = tt
 
   in_lines : (lines : List LineForm) → Below (length lines) (first_unsettled headers lines)
   in_lines [] = tt
-  in_lines (line ∷ lines) = next (length lines) _ (first_of (length lines) _ _ (below_header line lines) (in_lines lines))
+  in_lines (line ∷ lines) = next _ _ (first_of _ _ _ (below_header line lines) (in_lines lines))
 
 -- a line that names what is not there is one of the text
 pub unsettled_within : (lines : List LineForm) (number : ℕ) → unsettled_line lines ≡ Some number → number < length lines
@@ -82,15 +82,15 @@ module _ (names : Texts) (lines : List LineForm) where
   one_more line (Some fault) x e = absurd cc
 
   by_place : (line : LineForm) (t : Bool) (x : Texts × List LineForm) → cond t (kept names lines line (fault_of_line names lines line)) (Err line_faults.Syntax) ≡ Ok x → GoesOn lines x.1
-  by_place line true x e = one_more line (fault_of_line names lines line) x e
+  by_place line true x e = one_more line _ x e
   by_place line false x e = absurd cc
 
   by_form : (o : Option LineForm) (x : Texts × List LineForm) → judged names lines o ≡ Ok x → GoesOn lines x.1
   by_form None x e = absurd cc
-  by_form (Some line) x e = by_place line (may_follow (last_line lines) line) x e
+  by_form (Some line) x e = by_place line _ x e
 
   pub step_goes_on : (text : List ℕ) (x : Texts × List LineForm) → line_step names lines text ≡ Ok x → GoesOn lines x.1
-  step_goes_on text x e = by_form (line_reading text) x e
+  step_goes_on text x e = by_form _ x e
 
 -- ---- what a line's text leaves is what its form leaves, in front of the loader blocks; a text of no form is refused
 
@@ -121,7 +121,7 @@ head_text r number text = by_text (bytes_eq text (codes "beam script 1")) refl
 -- ---- lines of a module's text
 
 code_reads : (text : List ℕ) (l : LineForm) → line_reading text ≡ Some l → form_reading text ≡ Some (code l)
-code_reads text l e = let is = line_is text l e in reads text (code l) (record { text_is = is.text_is; sound = is.sound })
+code_reads text l e = let is = line_is text l e in reads text _ (record { text_is = is.text_is; sound = is.sound })
 
 reads_code : (text : List ℕ) (l : LineForm) → form_reading text ≡ Some (code l) → line_reading text ≡ Some l
 reads_code text l e = let is = form_is text (code l) e in text_again text l (record { text_is = is.text_is; sound = is.sound })
@@ -148,14 +148,14 @@ within_text r number text = by_reading (line_reading text) refl
 -- the text of an observer, where one may stand
 observer_text : (r : ScriptReader) (number : ℕ) (p : Place) (text rest : List ℕ) → cut_at 32 text ≡ Some (codes "observer", rest) → ((count : List ℕ) → step_at r number p (observer count) ≡ step_at r number Observing (observer count)) → observer_step r rest ≡ read_step r number p (form_reading text)
 unfolding observer_step
-observer_text r number p text rest cut same = by_test (is_snapshots_text rest) ∙ sym (ap (read_step r number p) (observer_reading text rest cut))
+observer_text r number p text rest cut same = by_test _ ∙ sym (ap (read_step r number p) (observer_reading text rest cut))
   where
     by_test : (t : Bool) → (or_syntax (cond t (Some (number_value rest)) None) >>= λ count. cond (nat_le 4 (length r.observers)) (Err (causes.Limit which.Observers)) (Ok (record r { observers = r.observers ++ count ∷ []; place = Observing }))) ≡ read_step r number p (option_map (λ count. observer count) (cond t (Some rest) None))
     by_test true = sym (same rest)
     by_test false = refl
 
 observer_cut : (text count : List ℕ) → IsLine text (observer count) → cut_at 32 text ≡ Some (codes "observer", count)
-observer_cut text count is = ap (cut_at 32) is.text_is ∙ cut_here 32 (codes "observer") count refl
+observer_cut text count is = ap (cut_at 32) is.text_is ∙ cut_here 32 _ count refl
 
 -- nor is one without a space
 uncut : (text : List ℕ) → cut_at 32 text ≡ None → (count : List ℕ) → IsLine text (observer count) → ⊥
@@ -170,7 +170,7 @@ module _ (text word rest : List ℕ) (cut : cut_at 32 text ≡ Some (word, rest)
       cc
 
   at_word : bytes_eq word (codes "observer") ≡ true → cut_at 32 text ≡ Some (codes "observer", rest)
-  at_word e = cut ∙ ap (λ (w : List ℕ). let so : Option (List ℕ × List ℕ) = Some (w, rest) in so) (bytes_are word (codes "observer") e)
+  at_word e = cut ∙ ap (λ (w : List ℕ). let so : Option (List ℕ × List ℕ) = Some (w, rest) in so) (bytes_are word _ e)
 
 -- a text that is neither `loader` nor `go`
 pub record IsKeyed (text : List ℕ) : Type 0 where
@@ -219,8 +219,7 @@ title_is text t e = by_cut (cut_at 32 text) refl e
 
 title_again : (text name version : List ℕ) → IsLine text (code (title name version)) → title_reading text ≡ Some (record { name = name; version = version })
 title_again text name version is =
-    let t : RefForm = record { name = name; version = version } in
-    ap titled (ap (cut_at 32) is.text_is ∙ cut_here 32 (codes "module") _ refl) ∙ reference.again t is.sound
+    ap titled (ap (cut_at 32) is.text_is ∙ cut_here 32 (codes "module") _ refl) ∙ reference.again (record { name = name; version = version }) is.sound
 
 -- a title by the number of its name
 abbrev numbered : ScriptReader → ℕ → RefForm → Texts × List LineForm → ℕ → Stepped

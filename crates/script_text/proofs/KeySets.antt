@@ -20,22 +20,21 @@ is_function_key k x = k.«module» == x.«module» && (k.name == x.name && k.ari
 
 -- a key is among keys where what it stands for is among what they stand for
 pub any-ref_keys : (k : RefKey) (ks : List RefKey) → list_any (λ x. k.name == x.name && k.version == x.version) ks ≡ list_any (is_same_mod_ref (ref_of_key k)) (map ref_of_key ks)
-any-ref_keys k ks = any-map (is_ref_key k) (is_same_mod_ref (ref_of_key k)) ref_of_key (λ x. refl) ks
+any-ref_keys k ks = any-map _ _ _ (λ x. refl) ks
 
 pub any-function_keys : (k : FunctionKey) (ks : List FunctionKey) → list_any (λ x. k.«module» == x.«module» && (k.name == x.name && k.arity == x.arity)) ks ≡ list_any (is_same_name (mfa_of_key k)) (map mfa_of_key ks)
-any-function_keys k ks = any-map (is_function_key k) (is_same_name (mfa_of_key k)) mfa_of_key (λ x. refl) ks
+any-function_keys k ks = any-map _ _ _ (λ x. refl) ks
 
 -- a key that is new stands behind the others
 pub ref_key_added : (k : RefKey) (ks new : List RefKey) → false ≡ is_among (map ref_of_key ks) (ref_of_key k) → new ≡ cond (list_any (λ x. k.name == x.name && k.version == x.version) ks) ks (ks ++ k ∷ []) → ref_added (map ref_of_key ks) (ref_of_key k) ≡ Ok (map ref_of_key new)
 ref_key_added k ks new fresh keys =
-    let none : list_any (is_ref_key k) ks ≡ false = any-ref_keys k ks ∙ sym fresh in
-    let is : new ≡ ks ++ k ∷ [] = keys ∙ ap (λ t. cond t ks (ks ++ k ∷ [])) none in
-    failed (is_among (map ref_of_key ks) (ref_of_key k)) _ _ (sym fresh) ∙ ap (λ (l : List ModRef). Ok l) (sym (ap (map ref_of_key) is ∙ map-append ref_of_key ks (k ∷ [])))
+    let is : new ≡ ks ++ k ∷ [] = keys ∙ ap (λ t. cond t ks (ks ++ k ∷ [])) (any-ref_keys k ks ∙ sym fresh) in
+    failed _ _ _ (sym fresh) ∙ ap (λ (l : List ModRef). Ok l) (sym (ap (map _) is ∙ map-append ref_of_key ks (k ∷ [])))
 
 pub function_key_added : (k : FunctionKey) (ks new : List FunctionKey) → false ≡ passes_functions (map mfa_of_key ks) (mfa_of_key k) → new ≡ cond (list_any (λ x. k.«module» == x.«module» && (k.name == x.name && k.arity == x.arity)) ks) ks (ks ++ k ∷ []) → mfa_added (map mfa_of_key ks) (mfa_of_key k) ≡ Ok (map mfa_of_key new)
 function_key_added k ks new room keys =
-    failed (passes_functions (map mfa_of_key ks) (mfa_of_key k)) _ _ (sym room)
-    ∙ ap (λ (l : List Mfa). Ok l) (ap (λ t. cond t (map mfa_of_key ks) (map mfa_of_key ks ++ mfa_of_key k ∷ [])) (sym (any-function_keys k ks)) ∙ by_test (list_any (is_function_key k) ks) ∙ sym (ap (map mfa_of_key) keys))
+    failed _ _ _ (sym room)
+    ∙ ap (λ (l : List Mfa). Ok l) (ap (λ t. cond t (map mfa_of_key ks) (map mfa_of_key ks ++ mfa_of_key k ∷ [])) (sym (any-function_keys k ks)) ∙ by_test _ ∙ sym (ap (map _) keys))
   where
     by_test : (t : Bool) → cond t (map mfa_of_key ks) (map mfa_of_key ks ++ mfa_of_key k ∷ []) ≡ map mfa_of_key (cond t ks (ks ++ k ∷ []))
     by_test true = refl

@@ -5,11 +5,11 @@ use Rattle.script_text.proofs.Types.{Mfa, ModRef, ScriptCmd, Load, Put, Trace, S
 use Rattle.script_text.proofs.Types.{Loading, Unread, Between, Within, Observing, Finished, ScriptReader}
 use Rattle.script_text.proofs.Texts.{is_atom_text, term_of, number_in, names_with_all, cut_at, bytes_are}
 use Rattle.script_text.proofs.Modules.{LineForm, is_arity_text, is_function_form, line_reading}
-use Rattle.script_text.proofs.Forms.{RefForm, AtomCommand, ScriptLine, code, observer, load, on_atom, is_ref_form, is_term_form, is_snapshots_text}
-use Rattle.script_text.proofs.Forms.{loader, go, onto_last, ref_in, argument_in, command_of, or_else, is_wide_term, is_long_term, refs_reading}
+use Rattle.script_text.proofs.Forms.{RefForm, AtomCommand, ScriptLine, code, observer, load, on_atom, is_term_form, is_snapshots_text}
+use Rattle.script_text.proofs.Forms.{loader, go, onto_last, ref_in, command_of, or_else, is_wide_term, is_long_term, refs_reading}
 use Rattle.script_text.proofs.Forms.{command_reading, PutForm, put_reading, TraceForm, trace_reading, CallForm, call_reading, or_syntax, atom_named}
 use Rattle.script_text.proofs.Forms.{refs_named, put_named, trace_named, call_named, ref_words, put_words, trace_words, call_words, ◌>>=◌, is_among}
-use Rattle.script_text.proofs.Forms.{mfa_added, process_added, names_added, step_named, block_step, end_step, step_at, step}
+use Rattle.script_text.proofs.Forms.{mfa_added, process_added, step_named, block_step, end_step, step_at, step}
 use Rattle.script_text.specs.Reading.{with_command, noted, load_step, atom_step, put_step, trace_step}
 use Rattle.script_text.specs.Reading.{spawn_step, command_by, command_step, keyed_step, other_step, line_at}
 use Rattle.script_text.specs.declared.fault.Which.TheVariants as which
@@ -17,8 +17,8 @@ use Rattle.script_text.specs.declared.reading.cause.LineCause.TheVariants as cau
 use Rattle.term_core.proofs.Text.Items.{pass_all}
 use Rattle.script_text.proofs.OneLine.{references, call_reader, trace_reader, put_reader, spawn_of, put_of, trace_of}
 use Rattle.script_text.proofs.OneLine.{by_word, by_command, observer_of, by_parts, form_reading, by_others, reads}
-use Rattle.script_text.proofs.Namings.{or_full, refs_named-is, traced_in, trace_named-is, atom_named-is, Called, target_in}
-use Rattle.script_text.proofs.Namings.{call_or_full, names_after_call, call_named-is, Keyed, put_or_full, names_after_put, put_named-is}
+use Rattle.script_text.proofs.Namings.{or_full, refs_named-is, traced_in, trace_named-is, atom_named-is, Called}
+use Rattle.script_text.proofs.Namings.{names_after_call, call_named-is, Keyed, names_after_put, put_named-is}
 use Rattle.script_text.proofs.FormSteps.{Stepped, read_step, IsKeyed, head_text, within_text, observing_text, between_text}
 
 abbrev loaded : ScriptReader → ℕ → List ModRef × Texts → Stepped
@@ -27,10 +27,16 @@ loaded r number x = Ok (with_command (noted (record r { names = x.1 }) number x.
 abbrev done : {X : Type 0} → ScriptReader → (X → ScriptCmd) → X × Texts → Stepped
 done r command x = Ok (with_command (record r { names = x.1 }) (command x.0))
 
--- a command with atoms and no more, where its terms are within the limits
-by_names : {X : Type 0} (r : ScriptReader) (number : ℕ) (line : ScriptLine) (value : Texts → X) (command : X → ScriptCmd) (after : Texts) → done r command (value after, after) ≡ step_named r number line after → (t : Bool) → (cond t (Err (causes.Limit which.Names)) (Ok (value after, after)) >>= done r command) ≡ (cond t (Err (causes.Limit which.Names)) (Ok after) >>= step_named r number line)
-by_names r number line value command after same true = refl
-by_names r number line value command after same false = same
+-- a command whose names find room leaves what its line does, and any other is refused alike
+by_names : {X : Type 0} (r : ScriptReader) (number : ℕ) (line : ScriptLine) (value : X) (leave : X → Stepped) (after : Texts) → leave value ≡ step_named r number line after → (t : Bool) → (cond t (Err (causes.Limit which.Names)) (Ok value) >>= leave) ≡ (cond t (Err (causes.Limit which.Names)) (Ok after) >>= step_named r number line)
+by_names r number line value leave after same true = refl
+by_names r number line value leave after same false = same
+
+-- so it does behind the limits of its terms
+by_limits : {X : Type 0} (r : ScriptReader) (number : ℕ) (line : ScriptLine) (value : X) (leave : X → Stepped) (after : Texts) → leave value ≡ step_named r number line after → (wide long t : Bool) → (cond wide (Err (causes.Limit which.Integer)) (cond long (Err (causes.Limit which.Term)) (cond t (Err (causes.Limit which.Names)) (Ok value))) >>= leave) ≡ cond wide (Err (causes.Limit which.Integer)) (cond long (Err (causes.Limit which.Term)) (cond t (Err (causes.Limit which.Names)) (Ok after) >>= step_named r number line))
+by_limits r number line value leave after same true long t = refl
+by_limits r number line value leave after same false true t = refl
+by_limits r number line value leave after same false false t = by_names r number line value leave after same t
 
 abbrev put_done : ScriptReader → Keyed → Stepped
 put_done r x = Ok (with_command (record r { names = x.2 }) (Put (record { 0 = x.0 }) (term_of x.1)))
@@ -60,16 +66,12 @@ module _ (r : ScriptReader) (number : ℕ) where
       by_given refs after true = refl
       by_given refs after false = refl
 
-      by_room : (refs : List RefForm) (after : Texts) (t : Bool) → (cond t (Err (causes.Limit which.Names)) (Ok (map (ref_in after) refs, after)) >>= loaded r number) ≡ (cond t (Err (causes.Limit which.Names)) (Ok after) >>= step_named r number (load refs))
-      by_room refs after true = refl
-      by_room refs after false = ap (λ (s : ScriptReader). let so : Stepped = Ok s in so) (by_given (map (ref_in after) refs) after (list_all (is_among r.titles) (map (ref_in after) refs)))
-
       by_form : (o : Option (List RefForm)) → refs_reading rest ≡ o → (or_syntax (option_map (map ref_words) o) >>= λ forms. refs_named r.names forms >>= loaded r number) ≡ read_step r number Loading (option_map (λ refs. load refs) o)
       by_form None e = refl
       by_form (Some refs) e =
           let after = names_with_all r.names (map (λ (f : RefForm). f.name) refs) in
-          ap (λ (s : Result (List ModRef × Texts) LineCause). s >>= loaded r number) (refs_named-is r.names refs (pass_all is_ref_form refs (references.is rest refs e).fits.1) room)
-          ∙ by_room refs after (nat_lt 4096 (length after))
+          ap (λ (s : Result (List ModRef × Texts) LineCause). s >>= loaded r number) (refs_named-is _ refs (pass_all _ refs (references.is rest refs e).fits.1) room)
+          ∙ by_names r number (load refs) (map (ref_in after) refs, after) (loaded r number) after (ap (λ (s : ScriptReader). let so : Stepped = Ok s in so) (by_given (map (ref_in after) refs) after (list_all (is_among r.titles) (map (ref_in after) refs)))) _
 
   atom_text : (text word rest : List ℕ) → atom_step r word rest ≡ read_step r number Loading (by_word (command_reading word) rest (option_map (λ l. code l) (line_reading text)))
   unfolding atom_step
@@ -79,7 +81,7 @@ module _ (r : ScriptReader) (number : ℕ) where
       by_atom c true e =
           let after = names_with_all r.names (rest ∷ []) in
           ap (λ (s : Result (ℕ × Texts) LineCause). s >>= done r (λ n. command_of c (record { 0 = n }))) (atom_named-is r.names rest e)
-          ∙ by_names r number (on_atom c rest) (λ names. number_in names rest) (λ n. command_of c (record { 0 = n })) after refl (nat_lt 4096 (length after))
+          ∙ by_names r number (on_atom c rest) (number_in after rest, after) (done r (λ n. command_of c (record { 0 = n }))) after refl (nat_lt 4096 (length after))
       by_atom c false e = ap (λ t. cond (not t) (Err causes.Syntax) (or_full (λ names. number_in names rest) (names_with_all r.names (rest ∷ []))) >>= done r (λ n. command_of c (record { 0 = n }))) e
 
       by_command_of : (o : Option AtomCommand) → (or_syntax o >>= λ c. atom_named r.names rest >>= done r (λ n. command_of c (record { 0 = n }))) ≡ read_step r number Loading (by_word o rest (option_map (λ l. code l) (line_reading text)))
@@ -97,47 +99,29 @@ module _ (r : ScriptReader) (number : ℕ) where
           let name = (and_parts (is_atom_text t.name) (is_arity_text t.arity) sound.1).0 in
           let after = names_with_all r.names (t.«module» ∷ t.name ∷ []) in
           ap (λ (s : Result (Mfa × Texts) LineCause). s >>= done r (λ target. Trace target t.on)) (trace_named-is r.names t sound.0 name)
-          ∙ by_names r number (trace_of t) (λ names. traced_in names t) (λ target. Trace target t.on) after refl (nat_lt 4096 (length after))
+          ∙ by_names r number (trace_of t) (traced_in after t, after) (done r (λ target. Trace target t.on)) after refl (nat_lt 4096 (length after))
 
   put_text : (rest : List ℕ) → put_step r rest ≡ read_step r number Loading (option_map put_of (put_reading rest))
   unfolding put_step
   put_text rest = by_form (put_reading rest) refl
     where
-      by_room : (p : PutForm) (after : Texts) (t : Bool) → (cond t (Err (causes.Limit which.Names)) (Ok (number_in after p.key, argument_in after p.term, after)) >>= put_done r) ≡ (cond t (Err (causes.Limit which.Names)) (Ok after) >>= step_named r number (put_of p))
-      by_room p after true = refl
-      by_room p after false = refl
-
-      by_limits : (p : PutForm) (wide long : Bool) → (cond wide (Err (causes.Limit which.Integer)) (cond long (Err (causes.Limit which.Term)) (put_or_full (names_after_put r.names p) p)) >>= put_done r) ≡ cond wide (Err (causes.Limit which.Integer)) (cond long (Err (causes.Limit which.Term)) (names_added r.names (put_of p) >>= step_named r number (put_of p)))
-      by_limits p true long = refl
-      by_limits p false true = refl
-      by_limits p false false = by_room p (names_after_put r.names p) (nat_lt 4096 (length (names_after_put r.names p)))
-
       by_form : (o : Option PutForm) → put_reading rest ≡ o → (or_syntax (option_map put_words o) >>= λ form. put_named r.names form >>= put_done r) ≡ read_step r number Loading (option_map put_of o)
       by_form None e = refl
       by_form (Some p) e =
           let sound = and_parts (is_atom_text p.key) (is_term_form p.term) (put_reader.is rest p e).fits in
-          ap (λ (s : Result Keyed LineCause). s >>= put_done r) (put_named-is r.names p sound.0 sound.1) ∙ by_limits p (is_wide_term p.term) (is_long_term p.term)
+          ap (λ (s : Result Keyed LineCause). s >>= put_done r) (put_named-is r.names p sound.0 sound.1) ∙ by_limits r number (put_of p) _ (put_done r) (names_after_put r.names p) refl (is_wide_term p.term) (is_long_term p.term) _
 
   spawn_text : (rest : List ℕ) → length r.names ≤ 4096 → spawn_step r rest ≡ read_step r number Loading (option_map spawn_of (call_reading rest))
   unfolding spawn_step
   spawn_text rest room = by_form (call_reading rest) refl
     where
-      by_room : (c : CallForm) (after : Texts) (t : Bool) → (cond t (Err (causes.Limit which.Names)) (Ok (target_in after c, map (argument_in after) c.args, after)) >>= with_call r) ≡ (cond t (Err (causes.Limit which.Names)) (Ok after) >>= step_named r number (spawn_of c))
-      by_room c after true = refl
-      by_room c after false = refl
-
-      by_limits : (c : CallForm) (wide long : Bool) → (cond wide (Err (causes.Limit which.Integer)) (cond long (Err (causes.Limit which.Term)) (call_or_full (names_after_call r.names c) c)) >>= with_call r) ≡ cond wide (Err (causes.Limit which.Integer)) (cond long (Err (causes.Limit which.Term)) (names_added r.names (spawn_of c) >>= step_named r number (spawn_of c)))
-      by_limits c true long = refl
-      by_limits c false true = refl
-      by_limits c false false = by_room c (names_after_call r.names c) (nat_lt 4096 (length (names_after_call r.names c)))
-
       by_form : (o : Option CallForm) → call_reading rest ≡ o → (or_syntax (option_map call_words o) >>= λ form. call_named r.names form >>= with_call r) ≡ read_step r number Loading (option_map spawn_of o)
       by_form None e = refl
       by_form (Some c) e =
           let p = and_parts (is_atom_text c.«module») _ (call_reader.is rest c e).fits in
           let q = and_parts (is_atom_text c.name) _ p.1 in
           let s = and_parts (nat_le (length c.args) 15) (list_all is_term_form c.args) q.1 in
-          ap (λ (s : Result Called LineCause). s >>= with_call r) (call_named-is r.names c p.0 q.0 s.1 room) ∙ by_limits c (list_any is_wide_term c.args) (list_any is_long_term c.args)
+          ap (λ (s : Result Called LineCause). s >>= with_call r) (call_named-is r.names c p.0 q.0 s.1 room) ∙ by_limits r number (spawn_of c) _ (with_call r) (names_after_call r.names c) refl (list_any is_wide_term c.args) (list_any is_long_term c.args) _
 
   -- where the word is none of the place's
   no_word : (word rest : List ℕ) → word ≡ codes "observer" → command_by r number (Some (word, rest)) ≡ Err causes.Syntax
@@ -184,12 +168,12 @@ module _ (r : ScriptReader) (number : ℕ) where
   other_text text p place starts ends keyed = by_loader (bytes_eq text (codes "loader")) refl
     where
       by_go : (t : Bool) → bytes_eq text (codes "loader") ≡ false → bytes_eq text (codes "go") ≡ t → cond t (end_step r) (keyed_step r number text r.place) ≡ read_step r number p (form_reading text)
-      by_go true no_loader e = sym (ap (read_step r number p) (reads text go (record { text_is = bytes_are text (codes "go") e; sound = refl })) ∙ ends)
+      by_go true no_loader e = sym (ap (read_step r number p) (reads text go (record { text_is = bytes_are text _ e; sound = refl })) ∙ ends)
       by_go false no_loader e = ap (keyed_step r number text) place ∙ keyed (record { no_loader = no_loader; no_go = e })
 
       by_loader : (t : Bool) → bytes_eq text (codes "loader") ≡ t → cond t (block_step r) (cond (bytes_eq text (codes "go")) (end_step r) (keyed_step r number text r.place)) ≡ read_step r number p (form_reading text)
-      by_loader true e = sym (ap (read_step r number p) (reads text loader (record { text_is = bytes_are text (codes "loader") e; sound = refl })) ∙ starts)
-      by_loader false e = by_go (bytes_eq text (codes "go")) e refl
+      by_loader true e = sym (ap (read_step r number p) (reads text _ (record { text_is = bytes_are text _ e; sound = refl })) ∙ starts)
+      by_loader false e = by_go _ e refl
 
   nothing_more : (o : Option ScriptLine) → Err causes.Syntax ≡ read_step r number Finished o
   nothing_more None = refl

@@ -6,7 +6,7 @@ use Rattle.mod_core.specs.declared.code.Operand.TheVariants.{Const}
 use Rattle.mod_core.specs.declared.code.Instr.TheVariants.{Move, Add, Sub, Eq, Less, CallExt, Ret, Pget, PgetOr, Elem, Print}
 use Rattle.script_text.proofs.Modules.{OperandForm, register, constant, InstrForm, move, add, sub, eq, less, call_ext, ret, pget, pget_or, elem}
 use Rattle.script_text.proofs.Modules.{print, LineForm, title, header, label, instr, operand_atoms, instr_atoms, line_atoms, body_of, functions_in}
-use Rattle.script_text.proofs.Modules.{HeaderForm, headers_in, instrs_in, atom_in, operand_in, target_in, instr_in, function_in, title_of, IsTitled}
+use Rattle.script_text.proofs.Modules.{HeaderForm, instrs_in, atom_in, operand_in, target_in, instr_in, function_in, title_of, IsTitled}
 use Rattle.script_text.proofs.Modules.{module_of}
 use Rattle.script_text.proofs.HeldNames.{number_in-more}
 use Rattle.script_text.proofs.TermLines.{term_after}
@@ -33,7 +33,7 @@ module _ (names : Texts) where
 
   same_operand : (more : Texts) (o : OperandForm) → AreHeld names (operand_atoms o) → operand_in (names ++ more) o ≡ operand_in names o
   same_operand more (register digits) h = refl
-  same_operand more (constant term) h = λ i. Const (term_of (term_after names (names ++ more) term (record { more = more; whole = refl }) h i))
+  same_operand more (constant term) h = λ i. Const (term_of (term_after names _ term (record { more = more; whole = refl }) h i))
 
   two_same : (more : Texts) (a b : OperandForm) → AreHeld names (operand_atoms a ++ operand_atoms b) → (operand_in (names ++ more) a ≡ operand_in names a) × (operand_in (names ++ more) b ≡ operand_in names b)
   two_same more a b h =
@@ -48,24 +48,17 @@ module _ (names more : Texts) (headers : List HeaderForm) (body : List LineForm)
   same_instr (less a b target) h = let both = two_same names more a b h in λ k. Less (both.0 k) (both.1 k) (target_in body target)
   same_instr (call_ext m name arity at) h =
       let p = same_atom names more m h.0 in
-      let q = same_atom names more name h.1.0 in
-      λ k. CallExt (record { «module» = p k; name = q k; arity = number_value arity }) (number_value at)
+      λ k. CallExt (record { «module» = p k; name = (same_atom names more name h.1.0) k; arity = number_value arity }) (number_value at)
   same_instr (ret value) h = λ k. Ret (same_operand names more value h k)
   same_instr (pget key to) h = λ k. Pget (same_atom names more key h.0 k) (number_value to)
-  same_instr (pget_or key other to) h =
-      let p = same_atom names more key h.0 in
-      let q = same_operand names more other h.1 in
-      λ k. PgetOr (p k) (q k) (number_value to)
+  same_instr (pget_or key other to) h = λ k. PgetOr ((same_atom names more key h.0) k) ((same_operand names more other h.1) k) (number_value to)
   same_instr (elem index from to) h = let both = two_same names more index from h in λ k. Elem (both.0 k) (both.1 k) (number_value to)
   same_instr (print value) h = λ k. Print (same_operand names more value h k)
   same_instr i h = refl
 
   same_code : (lines : List LineForm) → HaveHeld names lines → map (instr_in (names ++ more) headers body) (instrs_in lines) ≡ map (instr_in names headers body) (instrs_in lines)
   same_code [] h = refl
-  same_code (instr i ∷ lines) h =
-      let p = same_instr i h.0 in
-      let q = same_code lines h.1 in
-      λ k. p k ∷ q k
+  same_code (instr i ∷ lines) h = λ k. (same_instr i h.0) k ∷ (same_code lines h.1) k
   same_code (line ∷ lines) h = same_code lines h.1
 
 pub held_body : (names : Texts) (lines : List LineForm) → HaveHeld names lines → HaveHeld names (body_of lines)
@@ -78,10 +71,9 @@ module _ (names more : Texts) where
   same_functions headers [] h = refl
   same_functions headers (header exported name arity ∷ lines) h =
       let n = same_atom names more name h.0.0 in
-      let c = same_code names more headers (body_of lines) (body_of lines) (held_body names lines h.1) in
-      let rest = same_functions headers lines h.1 in
-      λ k. record { name = n k; arity = number_value arity; exported = exported; code = c k } ∷ rest k
-  same_functions headers (line ∷ lines) h = same_functions headers lines h.1
+      let c = same_code names more headers (body_of lines) _ (held_body names lines h.1) in
+      λ k. record { name = n k; arity = number_value arity; exported = exported; code = c k } ∷ (same_functions headers lines h.1) k
+  same_functions headers (line ∷ lines) h = same_functions _ lines h.1
 
   same_title : (lines : List LineForm) → IsTitled lines → HaveHeld names lines → atom_in (names ++ more) (title_of lines).0 ≡ atom_in names (title_of lines).0
   same_title (title name version ∷ lines) t h = same_atom names more name h.0.0
@@ -90,5 +82,5 @@ module _ (names more : Texts) where
   pub module_of-more : (lines : List LineForm) → IsTitled lines → HaveHeld names lines → module_of (names ++ more) lines ≡ module_of names lines
   module_of-more lines t h =
       let n = same_title lines t h in
-      let fs = same_functions (headers_in lines) lines h in
+      let fs = same_functions _ lines h in
       λ k. record { name = n k; version = number_value (title_of lines).1; functions = fs k }

@@ -25,7 +25,7 @@ rest_of step xs y = each_named step y.1 xs >>= λ more. Ok (y.0 ∷ more.0, more
 pub names_go_on : {X Y : Type 0} (step : Step X Y) (front : List Y) (names after : Texts) (x : X) (y : Y) (xs : List X) (whole : Result (List Y × Texts) LineCause) → step names x ≡ Ok (y, after) → with_front front (each_named step names (x ∷ xs)) ≡ whole → with_front (front ++ y ∷ []) (each_named step after xs) ≡ whole
 unfolding each_named
 names_go_on step front names after x y xs whole is so_far =
-    sym (shifted front y (each_named step after xs)) ∙ ap (λ (r : Result _ LineCause). with_front front (r >>= rest_of step xs)) (sym is) ∙ so_far
+    sym (shifted front y _) ∙ ap (λ (r : Result _ LineCause). with_front front (r >>= rest_of step xs)) (sym is) ∙ so_far
 
 -- an item that gets no number
 pub names_stop : {X Y : Type 0} (step : Step X Y) (front : List Y) (names : Texts) (x : X) (xs : List X) (whole : Result (List Y × Texts) LineCause) (cause : LineCause) → Fails (step names x) cause → with_front front (each_named step names (x ∷ xs)) ≡ whole → Fails whole cause
@@ -47,11 +47,11 @@ left_here f xs i d within =
 -- the same three of a loop over items, each of which is kept as another
 pub loop_goes_on : {A X Y : Type 0} (kept : A → X) (step : Step X Y) (front : List Y) (names after : Texts) (xs : List A) (i : ℕ) (d : A) (y : Y) (whole : Result (List Y × Texts) LineCause) → i < length xs → step names (kept (get_or xs i d)) ≡ Ok (y, after) → with_front front (each_named step names (map kept (drop i xs))) ≡ whole → with_front (front ++ y ∷ []) (each_named step after (map kept (drop (i + 1) xs))) ≡ whole
 loop_goes_on kept step front names after xs i d y whole within is so_far =
-    names_go_on step front names after (kept (get_or xs i d)) y (map kept (drop (i + 1) xs)) whole is (ap (λ (l : List _). with_front front (each_named step names l)) (sym (left_here kept xs i d within)) ∙ so_far)
+    names_go_on step front names after _ y _ whole is (ap (λ (l : List _). with_front front (each_named step names l)) (sym (left_here kept xs i d within)) ∙ so_far)
 
 pub loop_stops : {A X Y : Type 0} (kept : A → X) (step : Step X Y) (front : List Y) (names : Texts) (xs : List A) (i : ℕ) (d : A) (whole : Result (List Y × Texts) LineCause) (cause : LineCause) → i < length xs → Fails (step names (kept (get_or xs i d))) cause → with_front front (each_named step names (map kept (drop i xs))) ≡ whole → Fails whole cause
 loop_stops kept step front names xs i d whole cause within is so_far =
-    names_stop step front names (kept (get_or xs i d)) (map kept (drop (i + 1) xs)) whole cause is (ap (λ (l : List _). with_front front (each_named step names l)) (sym (left_here kept xs i d within)) ∙ so_far)
+    names_stop step front names _ _ whole cause is (ap (λ (l : List _). with_front front (each_named step names l)) (sym (left_here kept xs i d within)) ∙ so_far)
 
 pub loop_ends : {A X Y : Type 0} (kept : A → X) (step : Step X Y) (front : List Y) (names : Texts) (xs : List A) (i : ℕ) (whole : Result (List Y × Texts) LineCause) → length xs ≤ i → with_front front (each_named step names (map kept (drop i xs))) ≡ whole → whole ≡ Ok (front, names)
 loop_ends kept step front names xs i whole past so_far =

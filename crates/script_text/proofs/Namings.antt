@@ -6,7 +6,7 @@ use Rattle.std.proofs.lemmas.List.Concat.{flat_map_single}
 use Rattle.script_text.proofs.Types.{Mfa, ModRef, LineCause}
 use Rattle.script_text.proofs.Texts.{Extends, is_atom_text, names_with, PlainTerm, integer_leaf, atom_leaf}
 use Rattle.script_text.proofs.Texts.{tuple_of, list_of, atoms_of, term_in, number_in, names_with_all}
-use Rattle.script_text.proofs.Texts.{WrittenTerm, written, integer_of, is_term_integer, is_integer_text, form_is, number_value, test_not_lt}
+use Rattle.script_text.proofs.Texts.{WrittenTerm, written, integer_of, form_is, number_value, test_not_lt}
 use Rattle.script_text.proofs.Modules.{atom_in, mfa_in, names_with_all-append, more_names_all}
 use Rattle.script_text.proofs.Forms.{RefForm, is_ref_form, is_term_form, PutForm, TraceForm, CallForm, ref_in}
 use Rattle.script_text.proofs.Forms.{argument_in, is_wide_term, is_long_term, ref_words, trace_words}
@@ -32,18 +32,18 @@ over_stays a b le h = grind (arith, nat_tests)
 
 -- the first names are named, and then more of them
 named_next : {X Y : Type 0} (between more : Texts) (x : Result (X × Texts) LineCause) (value : X) (f : X × Texts → Result Y LineCause) (goal : Result Y LineCause) → x ≡ or_limit between (Ok (value, between)) → (length between ≤ 4096 → f (value, between) ≡ or_limit (names_with_all between more) goal) → (x >>= f) ≡ or_limit (names_with_all between more) goal
-named_next {X = X} between more x value f goal is rest = ap (λ (r : Result (X × Texts) LineCause). r >>= f) is ∙ by_room (nat_lt 4096 (length between)) refl
+named_next {X = X} between more x value f goal is rest = ap (λ (r : Result (X × Texts) LineCause). r >>= f) is ∙ by_room _ refl
   where
     by_room : (t : Bool) → nat_lt 4096 (length between) ≡ t → (cond t (Err (causes.Limit which.Names)) (Ok (value, between)) >>= f) ≡ or_limit (names_with_all between more) goal
     by_room true e = sym (ap (λ t. cond t (Err (causes.Limit which.Names)) goal) (over_stays (length between) _ (more_names_all between more) e))
-    by_room false e = rest (test_not_lt 4096 (length between) e)
+    by_room false e = rest (test_not_lt 4096 _ e)
 
 -- all are named
 last_named : {Y : Type 0} (after : Texts) (x y : Result Y LineCause) → length after ≤ 4096 → x ≡ y → x ≡ or_limit after y
-last_named after x y room e = e ∙ sym (ap (λ t. cond t (Err (causes.Limit which.Names)) y) (le-ltb 4096 (length after) room))
+last_named after x y room e = e ∙ sym (ap (λ t. cond t (Err (causes.Limit which.Names)) y) (le-ltb 4096 _ room))
 
 limit_then : {X Y : Type 0} (after : Texts) (z : X) (f : X → Result Y LineCause) → (or_limit after (Ok z) >>= f) ≡ or_limit after (f z)
-limit_then after z f = by_test (nat_lt 4096 (length after))
+limit_then after z f = by_test _
   where
     by_test : (t : Bool) → (cond t (Err (causes.Limit which.Names)) (Ok z) >>= f) ≡ cond t (Err (causes.Limit which.Names)) (f z)
     by_test true = refl
@@ -93,10 +93,10 @@ leaf_of a = Ok (atom_leaf a.0, a.1)
 ref_one : (names : Texts) (r : RefForm) → is_ref_form r ≡ true → ref_named names (ref_words r) ≡ or_full (λ after. ref_in after r) (names_with names r.name)
 ref_one names r h =
     let after = names_with names r.name in
-    ap (λ (x : Result Numbered LineCause). x >>= ref_of (number_value r.version)) (atom_named-is names r.name (and_parts (is_atom_text r.name) _ h).0) ∙ limit_then after (number_in after r.name, after) (ref_of (number_value r.version))
+    ap (λ (x : Result Numbered LineCause). x >>= ref_of (number_value r.version)) (atom_named-is names _ (and_parts _ _ h).0) ∙ limit_then after _ _
 
 ref_stays : (names after : Texts) (r : RefForm) → Extends (names_with names r.name) after → ref_in after r ≡ ref_in (names_with names r.name) r
-ref_stays names after r e = ap (λ (n : ℕ). let to : ModRef = record { name = record { 0 = n }; version = number_value r.version } in to) (number_in-after (names_with names r.name) after r.name e (held_with names r.name))
+ref_stays names after r e = ap (λ (n : ℕ). let to : ModRef = record { name = record { 0 = n }; version = number_value r.version } in to) (number_in-after _ after _ e (held_with names r.name))
 
 ref_namer : IsNamer ref_named ref_words (λ (r : RefForm). r.name ∷ []) ref_in is_ref_form
 ref_namer = record { one = λ names r h room. ref_one names r h; stays = λ names after r h e. ref_stays names after r e }
@@ -138,13 +138,13 @@ is_narrow t = is_term_form t && not (is_wide_term t)
 
 complex_one : (names : Texts) (t : WrittenTerm) → is_term_form t ≡ true → argument_named names (complex (written t)) ≡ or_full (λ after. argument_in after t) (names_with_all names (atoms_of t))
 complex_one names t h =
-    let is = form_is (written t) t (text_of_form t h) in
+    let is = form_is _ t (text_of_form t h) in
     let after = names_with_all names (atoms_of t) in
     ap (λ (atoms : Texts). or_full (λ ns. term_in ns (written t)) (names_with_all names atoms)) is.atoms
     ∙ ap (λ (u : PlainTerm). cond {A = Result (PlainTerm × Texts) LineCause} (nat_lt 4096 (length after)) (Err (causes.Limit which.Names)) (Ok (u, after))) (is.value after)
 
 pub argument_one : (names : Texts) (t : WrittenTerm) → is_narrow t ≡ true → length names ≤ 4096 → argument_named names (argument_words t) ≡ or_full (λ after. argument_in after t) (names_with_all names (atoms_of t))
-argument_one names (integer_leaf text) h room = by_fit (is_term_integer (integer_of text)) (and_parts (is_integer_text text) _ h).1
+argument_one names (integer_leaf text) h room = by_fit _ (and_parts _ _ h).1
   where
     by_fit : (b : Bool) → not (is_some {T = ℕ} (cond b None (Some 0))) ≡ true → argument_named names (integer (cond b (Some (integer_of text)) None)) ≡ or_full (λ after. integer_leaf (integer_of text)) names
     by_fit true e =
@@ -152,19 +152,18 @@ argument_one names (integer_leaf text) h room = by_fit (is_term_integer (integer
         sym (ap (λ t. cond {A = Result _ LineCause} t (Err (causes.Limit which.Names)) (Ok (integer_leaf (integer_of text), names))) room)
     by_fit false e = absurd cc
 argument_one names (atom_leaf text) h room =
-    let after = names_with names text in
-    ap (λ (x : Result Numbered LineCause). x >>= leaf_of) (atom_named-is names text (and_parts (is_atom_text text) _ h).0) ∙ limit_then after (number_in after text, after) leaf_of
+    ap (λ (x : Result Numbered LineCause). x >>= leaf_of) (atom_named-is names text (and_parts _ _ h).0) ∙ limit_then (names_with names text) _ _
 argument_one names (tuple_of row) h room = complex_one names (tuple_of row) (and_parts (is_term_form (tuple_of row)) _ h).0
 argument_one names (list_of row) h room = complex_one names (list_of row) (and_parts (is_term_form (list_of row)) _ h).0
 
 argument_stays : (names after : Texts) (t : WrittenTerm) → is_narrow t ≡ true → Extends (names_with_all names (atoms_of t)) after → argument_in after t ≡ argument_in (names_with_all names (atoms_of t)) t
-argument_stays names after t h e = term_after (names_with_all names (atoms_of t)) after t e (held_all names (atoms_of t))
+argument_stays names after t h e = term_after _ after t e (held_all names _)
 
 argument_namer : IsNamer argument_named argument_words atoms_of argument_in is_narrow
 argument_namer = record { one = argument_one; stays = argument_stays }
 
 pub arguments_named-is : (names : Texts) (args : List WrittenTerm) → list_all is_narrow args ≡ true → length names ≤ 4096 → arguments_named names (map argument_words args) ≡ or_full (λ after. map (argument_in after) args) (names_with_all names (flat_map atoms_of args))
-arguments_named-is names args h room = each_named-is argument_named argument_words atoms_of argument_in is_narrow argument_namer names args h room
+arguments_named-is names args h room = each_named-is _ _ _ _ _ argument_namer names args h room
 
 -- ---- calls
 
@@ -212,38 +211,43 @@ target_named-is names c m_text f_is args_are room =
 -- ---- limits of terms
 
 wide_word : (t : WrittenTerm) → is_term_form t ≡ true → is_wide_term t ≡ is_wide_word (argument_words t)
-wide_word (integer_leaf text) h = by_fit (is_term_integer (integer_of text))
+wide_word (integer_leaf text) h = by_fit _
   where
     by_fit : (b : Bool) → is_some {T = ℕ} (cond b None (Some 0)) ≡ is_wide_word (integer (cond b (Some (integer_of text)) None))
     by_fit true = refl
     by_fit false = refl
 wide_word (atom_leaf text) h = refl
-wide_word (tuple_of row) h = sym (form_is (written (tuple_of row)) (tuple_of row) (text_of_form (tuple_of row) h)).wide
-wide_word (list_of row) h = sym (form_is (written (list_of row)) (list_of row) (text_of_form (list_of row) h)).wide
+wide_word (tuple_of row) h = sym (form_is _ (tuple_of row) (text_of_form _ h)).wide
+wide_word (list_of row) h = sym (form_is _ (list_of row) (text_of_form _ h)).wide
 
 long_word : (t : WrittenTerm) → is_term_form t ≡ true → is_long_term t ≡ is_long_word (argument_words t)
 long_word (integer_leaf text) h = refl
 long_word (atom_leaf text) h = refl
-long_word (tuple_of row) h = ap (nat_lt 64) (sym (form_is (written (tuple_of row)) (tuple_of row) (text_of_form (tuple_of row) h)).words)
-long_word (list_of row) h = ap (nat_lt 64) (sym (form_is (written (list_of row)) (list_of row) (text_of_form (list_of row) h)).words)
+long_word (tuple_of row) h = ap (nat_lt 64) (sym (form_is _ (tuple_of row) (text_of_form _ h)).words)
+long_word (list_of row) h = ap (nat_lt 64) (sym (form_is _ (list_of row) (text_of_form _ h)).words)
 
 -- a test of forms is that of their words
 any_word : (test : WrittenTerm → Bool) (word_test : ArgumentWords → Bool) → ((t : WrittenTerm) → is_term_form t ≡ true → test t ≡ word_test (argument_words t)) → (ts : List WrittenTerm) → list_all is_term_form ts ≡ true → list_any test ts ≡ list_any word_test (map argument_words ts)
 any_word test word_test same [] h = refl
 any_word test word_test same (t ∷ ts) h =
-    let p = and_parts (is_term_form t) (list_all is_term_form ts) h in
+    let p = and_parts _ _ h in
     let first = same t p.0 in
-    let more = any_word test word_test same ts p.1 in
+    let more = any_word test _ same ts p.1 in
     λ i. first i || more i
 
 all_narrow : (args : List WrittenTerm) → list_all is_term_form args ≡ true → list_any is_wide_term args ≡ false → list_all is_narrow args ≡ true
 all_narrow [] h k = refl
 all_narrow (t ∷ ts) h k =
-    let p = and_parts (is_term_form t) (list_all is_term_form ts) h in
-    let q = or_parts (is_wide_term t) (list_any is_wide_term ts) k in
-    and_from (is_narrow t) (list_all is_narrow ts) (and_from (is_term_form t) (not (is_wide_term t)) p.0 (ap not q.0)) (all_narrow ts p.1 q.1)
+    let p = and_parts _ _ h in
+    let q = or_parts _ _ k in
+    and_from _ _ (and_from _ _ p.0 (ap not q.0)) (all_narrow ts p.1 q.1)
 
 -- ---- calls and their limits
+
+-- behind the limits of terms two answers are one that are one where no integer is too wide
+limits_then : {X : Type 0} (wide long : Bool) (a b : Result X LineCause) → (wide ≡ false → a ≡ b) → cond wide (Err (causes.Limit which.Integer)) (cond long (Err (causes.Limit which.Term)) a) ≡ cond wide (Err (causes.Limit which.Integer)) (cond long (Err (causes.Limit which.Term)) b)
+limits_then true long a b same = refl
+limits_then false long a b same = ap (cond long (Err (causes.Limit which.Term))) (same refl)
 
 -- a call is named, or has an integer that is too wide, or a term that is too long, or finds the table full
 pub call_named-is : (names : Texts) (c : CallForm) → is_atom_text c.«module» ≡ true → is_atom_text c.name ≡ true → list_all is_term_form c.args ≡ true → length names ≤ 4096 →
@@ -252,13 +256,7 @@ call_named-is names c m_is f_is args_are room =
     let wide = sym (any_word is_wide_term is_wide_word wide_word c.args args_are) in
     let long = sym (any_word is_long_term is_long_word long_word c.args args_are) in
     (λ i. cond (wide i) (Err (causes.Limit which.Integer)) (cond (long i) (Err (causes.Limit which.Term)) (target_named names (call_words c))))
-    ∙ by_wide (list_any is_wide_term c.args) refl
-  where
-    by_wide : (t : Bool) → list_any is_wide_term c.args ≡ t →
-        cond t (Err (causes.Limit which.Integer)) (cond (list_any is_long_term c.args) (Err (causes.Limit which.Term)) (target_named names (call_words c)))
-        ≡ cond t (Err (causes.Limit which.Integer)) (cond (list_any is_long_term c.args) (Err (causes.Limit which.Term)) (call_or_full (names_after_call names c) c))
-    by_wide true e = refl
-    by_wide false e = ap (cond (list_any is_long_term c.args) (Err (causes.Limit which.Term))) (target_named-is names c m_is f_is (all_narrow c.args args_are e) room)
+    ∙ limits_then (list_any is_wide_term c.args) (list_any is_long_term c.args) _ _ (λ e. target_named-is names c m_is f_is (all_narrow c.args args_are e) room)
 
 -- ---- puts
 
@@ -297,10 +295,4 @@ put_named-is names p key_is form =
     let wide = sym (wide_word p.term form) in
     let long = sym (long_word p.term form) in
     (λ i. cond (wide i) (Err (causes.Limit which.Integer)) (cond (long i) (Err (causes.Limit which.Term)) (key_with_term names (put_words p))))
-    ∙ by_wide (is_wide_term p.term) refl
-  where
-    by_wide : (t : Bool) → is_wide_term p.term ≡ t →
-        cond t (Err (causes.Limit which.Integer)) (cond (is_long_term p.term) (Err (causes.Limit which.Term)) (key_with_term names (put_words p)))
-        ≡ cond t (Err (causes.Limit which.Integer)) (cond (is_long_term p.term) (Err (causes.Limit which.Term)) (put_or_full (names_after_put names p) p))
-    by_wide true e = refl
-    by_wide false e = ap (cond (is_long_term p.term) (Err (causes.Limit which.Term))) (key_named-is names p key_is (and_from (is_term_form p.term) (not (is_wide_term p.term)) form (ap not e)))
+    ∙ limits_then (is_wide_term p.term) (is_long_term p.term) _ _ (λ e. key_named-is names p key_is (and_from (is_term_form p.term) (not (is_wide_term p.term)) form (ap not e)))

@@ -9,9 +9,8 @@ use Rattle.script_text.proofs.Texts.{number_lacks, nothing, cut_at, switch_is, s
 use Rattle.term_core.proofs.PartedTerms.{parts_of_parted, joined_parts_of_terms, joined_written}
 use Rattle.term_core.proofs.TokenLaws.{terms_of-row_of}
 use Rattle.term_core.proofs.Text.Items.{IsItem, each_again, each_is, join-flat, all_pass, pass_all}
-use Rattle.term_core.specs.Text.Words.{switch_word, switch_reading}
-use Rattle.script_text.proofs.Modules.{is_version_text, is_arity_text, is_function_form, spaced, LineForm, parts_reading, line_split}
-use Rattle.script_text.proofs.Modules.{has_sound_terms, sound_reading, line_reading, text_again, line_is}
+use Rattle.script_text.proofs.Modules.{is_version_text, is_arity_text, is_function_form, spaced, LineForm, parts_reading}
+use Rattle.script_text.proofs.Modules.{sound_reading, line_reading, text_again, line_is}
 use Rattle.mod_text.proofs.LineReaders.{IsApart, space_apart, version_number, name, function, titled, external_lacks}
 use Rattle.mod_text.proofs.Readers.{Reader, fitting, pair, made, row, passing}
 use Rattle.script_text.proofs.Types.{LineCause}
@@ -28,7 +27,7 @@ use Rattle.script_text.proofs.TermLines.{IsTermForm, argument, argument_again, a
 
 row_form : (ts : List WrittenTerm) → list_all is_term_form ts ≡ true → is_row_form (row_of ts) ≡ true
 row_form [] h = refl
-row_form (t ∷ ts) h = let p = and_parts (is_term_form t) (list_all is_term_form ts) h in and_from (is_term_form t) (is_row_form (row_of ts)) p.0 (row_form ts p.1)
+row_form (t ∷ ts) h = let p = and_parts _ _ h in and_from _ _ p.0 (row_form ts p.1)
 
 -- written terms with commas between them have their texts for their parts
 pub parts_of_written : (t : WrittenTerm) (ts : List WrittenTerm) → list_all is_term_form (t ∷ ts) ≡ true → parts_of_terms (parted (row_of (t ∷ ts))) ≡ map written (t ∷ ts)
@@ -43,15 +42,15 @@ reference = made titled (λ x. record { name = x.0; version = x.1 }) (λ r. (r.n
 
 pub ref_lacks : (byte : ℕ) (r : RefForm) → IsApart byte → (46 == byte) ≡ false → is_ref_form r ≡ true → lacks byte (ref_written r) ≡ true
 ref_lacks byte r apart dot h =
-    let p = and_parts (is_atom_text r.name) (is_version_text r.version) h in
+    let p = and_parts _ _ h in
     lacks-append byte r.name (46 ∷ r.version) (atom_lacks byte r.name apart.name p.0) (lacks-cons byte 46 r.version dot (number_lacks byte r.version apart.digit (version_number r.version p.1)))
 
 abbrev pub references : Reader (List RefForm)
 references = row 32 reference (λ r h. ref_lacks 32 r space_apart refl h)
 
 pub load_is : (rs : List RefForm) → 0 < length rs → codes "load" ++ 32 ∷ join_with_byte 32 (map ref_written rs) ≡ script_line_written (load rs)
-load_is [] h = absurd (omega (arith, h))
-load_is (r ∷ rs) h = ap (λ (t : List ℕ). codes "load" ++ t) (join-flat ref_written 32 r rs)
+load_is [] h = absurd (omega arith)
+load_is (r ∷ rs) h = ap (λ (t : List ℕ). codes "load" ++ t) (join-flat _ 32 r rs)
 
 pub load_sound : (rs : List RefForm) → (0 < length rs) × AllByRecursion (λ r. is_ref_form r ≡ true) rs → is_script_line (load rs) ≡ true
 load_sound [] h = absurd (omega (arith, h.0))
@@ -78,24 +77,24 @@ arguments_again (t ∷ ts) h =
 arguments_cases : (text : List ℕ) (ts : List WrittenTerm) (b : Bool) → (length text == 0) ≡ b → cond b (Some []) (each_reading argument_reading (parts_of_terms text)) ≡ Some ts → (text ≡ parted (row_of ts)) × (list_all is_term_form ts ≡ true)
 arguments_cases text ts true is e = let none : [] ≡ ts = some_is [] ts e in subst (λ us. (text ≡ parted (row_of us)) × (list_all is_term_form us ≡ true)) none (nothing text is, refl)
 arguments_cases text ts false is e =
-    let a = each_is written argument_reading IsTermForm argument_is (parts_of_terms text) ts e in
-    (sym (joined_parts_of_terms text) ∙ ap joined a.texts ∙ joined_written ts, pass_all is_term_form ts a.fit)
+    let a = each_is _ _ IsTermForm argument_is _ ts e in
+    (sym (joined_parts_of_terms text) ∙ ap joined a.texts ∙ joined_written ts, pass_all _ ts a.fit)
 
 arguments_is : (text : List ℕ) (ts : List WrittenTerm) → arguments_reading text ≡ Some ts → (text ≡ parted (row_of ts)) × (list_all is_term_form ts ≡ true)
-arguments_is text ts e = arguments_cases text ts (length text == 0) refl e
+arguments_is text ts e = arguments_cases text ts _ refl e
 
 -- what stands in brackets lacks the closing one
 behind_lacks : (byte : ℕ) (ts : List WrittenTerm) → is_term_byte byte ≡ false → (44 == byte) ≡ false → list_all is_term_form ts ≡ true → lacks byte (behind (row_of ts)) ≡ true
 behind_lacks byte [] apart comma h = refl
 behind_lacks byte (t ∷ ts) apart comma h =
-    let p = and_parts (is_term_form t) (list_all is_term_form ts) h in
-    lacks-cons byte 44 (written t ++ behind (row_of ts)) comma (lacks-append byte (written t) (behind (row_of ts)) (term_lacks byte t apart p.0) (behind_lacks byte ts apart comma p.1))
+    let p = and_parts _ _ h in
+    lacks-cons byte 44 _ comma (lacks-append byte _ _ (term_lacks byte t apart p.0) (behind_lacks byte ts apart comma p.1))
 
 parted_lacks : (byte : ℕ) (ts : List WrittenTerm) → is_term_byte byte ≡ false → (44 == byte) ≡ false → list_all is_term_form ts ≡ true → lacks byte (parted (row_of ts)) ≡ true
 parted_lacks byte [] apart comma h = refl
 parted_lacks byte (t ∷ ts) apart comma h =
-    let p = and_parts (is_term_form t) (list_all is_term_form ts) h in
-    lacks-append byte (written t) (behind (row_of ts)) (term_lacks byte t apart p.0) (behind_lacks byte ts apart comma p.1)
+    let p = and_parts _ _ h in
+    lacks-append byte _ _ (term_lacks byte t apart p.0) (behind_lacks byte ts apart comma p.1)
 
 -- arguments of a call
 abbrev pub AreArguments : List WrittenTerm → Type 0
@@ -103,16 +102,16 @@ AreArguments ts = (nat_le (length ts) 15 ≡ true) × (list_all is_term_form ts 
 
 closed_is : (x : List ℕ × List ℕ) (ts : List WrittenTerm) → closed_arguments x ≡ Some ts → (x.0 ++ 41 ∷ x.1 ≡ parted (row_of ts) ++ 41 ∷ []) × (nat_le (length ts) 15 ≡ true) × (list_all is_term_form ts ≡ true)
 closed_is x ts e =
-    let a = bind_some (arguments_reading x.0) (λ args. cond (length x.1 == 0 && nat_le (length args) 15) (Some args) None) ts e in
-    let g = guard_some (length x.1 == 0 && nat_le (length a.0) 15) a.0 ts a.2 in
-    let tests = and_parts (length x.1 == 0) (nat_le (length a.0) 15) g.0 in
+    let a = bind_some _ (λ args. cond (length x.1 == 0 && nat_le (length args) 15) (Some args) None) ts e in
+    let g = guard_some _ a.0 ts a.2 in
+    let tests = and_parts _ _ g.0 in
     let is = arguments_is x.0 a.0 a.1 in
     subst (λ us. (x.0 ++ 41 ∷ x.1 ≡ parted (row_of us) ++ 41 ∷ []) × (nat_le (length us) 15 ≡ true) × (list_all is_term_form us ≡ true)) g.1
     (ap (λ (l : List ℕ). x.0 ++ 41 ∷ l) (nothing x.1 tests.0) ∙ ap (λ (l : List ℕ). l ++ 41 ∷ []) is.0, tests.1, is.1)
 
 pub inside_is : (text : List ℕ) (ts : List WrittenTerm) → (cut_at 41 text >>= closed_arguments) ≡ Some ts → IsItem (λ us. parted (row_of us) ++ 41 ∷ []) AreArguments text ts
 inside_is text ts e =
-    let x = bind_some (cut_at 41 text) closed_arguments ts e in
+    let x = bind_some _ _ ts e in
     let is = closed_is x.0 ts x.2 in
     record { text_is = (cut_is 41 text x.0 x.1).whole ∙ is.0; fits = (is.1, is.2) }
 
@@ -123,7 +122,7 @@ inside_again ts h =
     (bind_at (arguments_reading text) (λ args. cond (true && nat_le (length args) 15) (Some args) None) ts (some ts) (arguments_again ts h.1) (passed (nat_le (length ts) 15) (some ts) None h.0))
 
 abbrev inside : Reader (List WrittenTerm)
-inside = fitting (λ ts. parted (row_of ts) ++ 41 ∷ []) AreArguments (λ text. cut_at 41 text >>= closed_arguments) inside_is inside_again
+inside = fitting (λ ts. parted _ ++ 41 ∷ []) AreArguments (λ text. cut_at 41 text >>= closed_arguments) inside_is inside_again
 
 abbrev called : Reader (List ℕ × (List ℕ × List WrittenTerm))
 called = pair 58 name (pair 40 name inside (λ n h. atom_lacks 40 n refl h)) (λ n h. atom_lacks 58 n refl h)
@@ -153,15 +152,12 @@ word_or word key k c rest is more false b e = more e
 -- a word that names a command is its word
 pub word_is : (word : List ℕ) (c : AtomCommand) → command_reading word ≡ Some c → word ≡ command_word c
 word_is word c e =
-    word_or word (codes "delete") delete c _ refl
-    (word_or word (codes "soft_purge") soft_purge c _ refl
-    (word_or word (codes "purge") purge c _ refl
-    (word_or word (codes "check_old") check_old c _ refl
-    (word_or word (codes "erase") erase c None refl (λ none. absurd cc) (bytes_eq word (codes "erase")) refl)
-    (bytes_eq word (codes "check_old")) refl)
-    (bytes_eq word (codes "purge")) refl)
-    (bytes_eq word (codes "soft_purge")) refl)
-    (bytes_eq word (codes "delete")) refl e
+    word_or word _ delete c _ refl (word_or word _ soft_purge c _ refl (word_or word _ purge c _ refl (word_or word _ check_old c _ refl
+    (word_or word _ erase c None refl (λ none. absurd cc) _ refl)
+    _ refl)
+    _ refl)
+    _ refl)
+    _ refl e
 
 pub word_lacks : (c : AtomCommand) → lacks 32 (command_word c) ≡ true
 word_lacks delete = refl
@@ -170,7 +166,7 @@ word_lacks c = refl
 -- ---- breakpoints
 
 abbrev switch : Reader Bool
-switch = fitting switch_word (λ _. Unit {0}) switch_reading (λ text on e. record { text_is = switch_is text on e; fits = tt }) (λ on _. switch_again on)
+switch = fitting _ (λ _. Unit {0}) _ (λ text on e. record { text_is = switch_is text on e; fits = tt }) (λ on _. switch_again on)
 
 abbrev traced : Reader ((List ℕ × (List ℕ × List ℕ)) × Bool)
 traced = pair 32 (pair 58 name function (λ n h. atom_lacks 58 n refl h)) switch (λ p h. external_lacks 32 p.0 p.1.0 p.1.1 space_apart refl refl h.0 (and_from _ _ h.1.0 h.1.1))
@@ -202,9 +198,8 @@ words_of key (Some t) = refl
 pub put_at : (text front rest key : List ℕ) → cut_at 32 text ≡ Some (front, rest) → text_tested is_atom_text front ≡ Some key → or_syntax (option_map put_words (put_reading text)) ≡ (or_syntax (option_map argument_words (argument_reading rest)) >>! with_key key)
 put_at text front rest key cut named =
     ap (λ o. or_syntax (option_map put_words (o >>= put_made)))
-    (bind_at (cut_at 32 text) (λ x. text_tested is_atom_text x.0 >>= λ k. argument_reading x.1 >>= λ t. Some (k, t)) (front, rest) _ cut
-    (bind_at (text_tested is_atom_text front) (λ k. argument_reading rest >>= λ t. Some (k, t)) key _ named refl))
-    ∙ words_of key (argument_reading rest)
+    (bind_at _ (λ x. text_tested is_atom_text x.0 >>= λ k. argument_reading x.1 >>= λ t. Some _) _ _ cut
+    (bind_at _ (λ k. argument_reading rest >>= λ t. Some _) key _ named refl)) ∙ words_of key _
 
 -- a step that is refused refuses what comes behind it
 pub fails_on : {A B : Type 0} (r : Result A LineCause) (f : A → Result B LineCause) (cause : LineCause) → Fails r cause → Fails (r >>! f) cause
@@ -212,8 +207,7 @@ fails_on r f causes.NoMemory h = tt
 fails_on r f cause h = ap (λ x. x >>! f) h
 
 pub put_stops : (text front rest key : List ℕ) (cause : LineCause) → cut_at 32 text ≡ Some (front, rest) → text_tested is_atom_text front ≡ Some key → Fails (or_syntax (option_map argument_words (argument_reading rest))) cause → Fails (or_syntax (option_map put_words (put_reading text))) cause
-put_stops text front rest key cause cut named h =
-    subst (λ r. Fails r cause) (sym (put_at text front rest key cut named)) (fails_on (or_syntax (option_map argument_words (argument_reading rest))) (with_key key) cause h)
+put_stops text front rest key cause cut named h = subst (λ r. Fails r cause) (sym (put_at text front rest key cut named)) (fails_on _ _ cause h)
 
 -- ---- a text is that of one line of a script at most
 
@@ -263,7 +257,7 @@ form_reading text =
 -- ---- which texts are no words
 
 other_text : (text key : List ℕ) → (text ≡ key → ⊥) → bytes_eq text key ≡ false
-other_text text key differ = by_test (bytes_eq text key) refl
+other_text text key differ = by_test _ refl
   where
     by_test : (t : Bool) → bytes_eq text key ≡ t → t ≡ false
     by_test true e = absurd (differ (bytes_are text key e))
@@ -276,10 +270,7 @@ pub record IsOther (text : List ℕ) : Type 0 where
   pub no_go : text ≡ codes "go" → ⊥
 
 pub by_others : (text : List ℕ) → IsOther text → form_reading text ≡ by_parts text (cut_at 32 text)
-by_others text o =
-    failed (bytes_eq text (codes "beam script 1")) (Some head) _ (other_text text (codes "beam script 1") o.no_head)
-    ∙ failed (bytes_eq text (codes "loader")) (Some loader) _ (other_text text (codes "loader") o.no_loader)
-    ∙ failed (bytes_eq text (codes "go")) (Some go) _ (other_text text (codes "go") o.no_go)
+by_others text o = failed _ _ _ (other_text text _ o.no_head) ∙ failed _ _ _ (other_text text _ o.no_loader) ∙ failed _ _ _ (other_text text _ o.no_go)
 
 -- a text that is cut at a space, where the word before it is not `beam`
 worded : (text word rest : List ℕ) → cut_at 32 text ≡ Some (word, rest) → bytes_eq (codes "beam") word ≡ false → IsOther text
@@ -303,11 +294,11 @@ split_by false found line e = absurd cc
 
 split_is : (o : Option LineForm) (line : LineForm) → sound_reading o ≡ Some line → o ≡ Some line
 split_is None line e = absurd cc
-split_is (Some found) line e = split_by (has_sound_terms found) found line e
+split_is (Some found) line e = split_by _ found line e
 
 -- a line of a module's text has neither word
 code_parts : (text : List ℕ) (line : LineForm) → line_reading text ≡ Some line → by_parts text (cut_at 32 text) ≡ Some (code line)
-code_parts text line e = by_cut (cut_at 32 text) refl
+code_parts text line e = by_cut _ refl
   where
     -- which is none of the words of a module's text
     no_code : (word rest : List ℕ) (c : AtomCommand) → word ≡ command_word c → parts_reading text (Some (word, rest)) ≡ Some line → ⊥
@@ -327,29 +318,26 @@ code_parts text line e = by_cut (cut_at 32 text) refl
 
     by_keys : (parts : List ℕ × List ℕ) → parts_reading text (Some parts) ≡ Some line → by_parts text (Some parts) ≡ Some (code line)
     by_keys parts read =
-        by_key (codes "observer") parts (observer_of parts.1) (by_command text parts) (bytes_eq parts.0 (codes "observer")) read refl refl
-        (by_key (codes "load") parts (option_map (λ refs. load refs) (refs_reading parts.1)) _ (bytes_eq parts.0 (codes "load")) read refl refl
-        (by_key (codes "spawn") parts (option_map spawn_of (call_reading parts.1)) (by_other text parts) (bytes_eq parts.0 (codes "spawn")) read refl refl
-        (by_key (codes "trace") parts (option_map trace_of (trace_reading parts.1)) _ (bytes_eq parts.0 (codes "trace")) read refl refl
-        (by_key (codes "put") parts (option_map put_of (put_reading parts.1)) _ (bytes_eq parts.0 (codes "put")) read refl refl (by_atom parts (command_reading parts.0) read refl)))))
+        by_key _ parts _ _ _ read refl refl (by_key _ parts (option_map (λ refs. load refs) (refs_reading parts.1)) _ _ read refl refl
+        (by_key _ parts _ _ _ read refl refl (by_key _ parts _ _ _ read refl refl (by_key _ parts _ _ _ read refl refl (by_atom parts _ read refl)))))
 
     by_cut : (o : Option (List ℕ × List ℕ)) → cut_at 32 text ≡ o → by_parts text o ≡ Some (code line)
     by_cut None cut = ap (option_map (λ l. code l)) e
-    by_cut (Some parts) cut = by_keys parts (sym (ap (parts_reading text) cut) ∙ split_is (line_split text) line e)
+    by_cut (Some parts) cut = by_keys parts (sym (ap (parts_reading text) cut) ∙ split_is _ line e)
 
 -- ---- the one line
 
 -- a line that begins with a word of its own
 word_reads : {A : Type 0} (r : Reader A) (make : A → ScriptLine) (word : List ℕ) (x : A) (text : List ℕ) → text ≡ word ++ 32 ∷ r.write x → lacks 32 word ≡ true → bytes_eq (codes "beam") word ≡ false → by_parts text (Some (word, r.write x)) ≡ option_map make (r.read (r.write x)) → r.Fits x → form_reading text ≡ Some (make x)
 word_reads r make word x text whole apart other shape fits =
-    let cut = ap (cut_at 32) whole ∙ cut_here 32 word (r.write x) apart in
-    by_others text (worded text word (r.write x) cut other) ∙ ap (by_parts text) cut ∙ shape ∙ ap (option_map make) (r.again x fits)
+    let cut = ap (cut_at 32) whole ∙ cut_here 32 word _ apart in
+    by_others text (worded text word _ cut other) ∙ ap (by_parts text) cut ∙ shape ∙ ap (option_map make) (r.again x fits)
 
 -- ---- behind a word
 
 made_line : {A : Type 0} (r : Reader A) (make : A → ScriptLine) (key : List ℕ) → ((x : A) → r.Known x → key ++ 32 ∷ r.write x ≡ script_line_written (make x)) → ((x : A) → r.Known x → is_script_line (make x) ≡ true) → (text rest : List ℕ) (line : ScriptLine) → text ≡ key ++ 32 ∷ rest → option_map make (r.read rest) ≡ Some line → IsLine text line
 made_line r make key shape fit text rest line whole e =
-    let m = map_some make (r.read rest) line e in
+    let m = map_some make _ line e in
     let is = r.is rest m.0 m.1 in
     subst (IsLine text) m.2 (record { text_is = whole ∙ ap (λ (t : List ℕ). key ++ 32 ∷ t) is.text_is ∙ shape m.0 is.fits; sound = fit m.0 is.fits })
 
@@ -360,7 +348,7 @@ module _ (text : List ℕ) where
       by_others text (code_other text line e) ∙ code_parts text line e
   reads (observer count) is = word_reads (passing is_snapshots_text) (λ n. observer n) (codes "observer") count text is.text_is refl refl refl is.sound
   reads (load refs) is = let fits = load_fits refs is.sound in word_reads references (λ rs. load rs) (codes "load") refs text (is.text_is ∙ sym (load_is refs fits.0)) refl refl refl fits
-  reads (on_atom command n) is = word_reads name (λ m. on_atom command m) (command_word command) n text is.text_is (word_lacks command) (no_beam command) (by_atom command) is.sound
+  reads (on_atom command n) is = word_reads name (λ m. on_atom command m) _ n text is.text_is (word_lacks _) (no_beam _) (by_atom _) is.sound
     where
       no_beam : (c : AtomCommand) → bytes_eq (codes "beam") (command_word c) ≡ false
       no_beam delete = refl
@@ -376,7 +364,7 @@ module _ (text : List ℕ) where
 
   -- a text that begins with the word of an observer is read as an observer's
   pub observer_reading : (rest : List ℕ) → cut_at 32 text ≡ Some (codes "observer", rest) → form_reading text ≡ observer_of rest
-  observer_reading rest cut = by_others text (worded text (codes "observer") rest cut refl) ∙ ap (by_parts text) cut
+  observer_reading rest cut = by_others text (worded text _ rest cut refl) ∙ ap (by_parts text) cut
 
   -- two lines with one text are one
   pub one_line : (a b : ScriptLine) → IsLine text a → IsLine text b → a ≡ b
@@ -393,34 +381,34 @@ module _ (text : List ℕ) where
 
   code_line : (line : ScriptLine) → option_map (λ l. code l) (line_reading text) ≡ Some line → IsLine text line
   code_line line e =
-      let m = map_some (λ l. code l) (line_reading text) line e in
+      let m = map_some (λ l. code l) _ line e in
       let is = line_is text m.0 m.1 in
       subst (IsLine text) m.2 (record { text_is = is.text_is; sound = is.sound })
 
   atom_line : (word rest : List ℕ) (line : ScriptLine) → cut_at 32 text ≡ Some (word, rest) → (o : Option AtomCommand) → command_reading word ≡ o → by_word o rest (option_map (λ l. code l) (line_reading text)) ≡ Some line → IsLine text line
   atom_line word rest line cut None f e = code_line line e
   atom_line word rest line cut (Some c) f e =
-      made_line name (λ n. on_atom c n) (command_word c) (λ n h. refl) (λ n h. h) text rest line ((cut_is 32 text (word, rest) cut).whole ∙ ap (λ (w : List ℕ). w ++ 32 ∷ rest) (word_is word c f)) e
+      made_line name (λ n. on_atom c n) _ (λ n h. refl) (λ n h. h) text rest line ((cut_is 32 text _ cut).whole ∙ ap (λ (w : List ℕ). w ++ 32 ∷ rest) (word_is word c f)) e
 
   -- a line behind its word, or another
   behind_word : (word rest key : List ℕ) (x y : Option ScriptLine) (line : ScriptLine) → cut_at 32 text ≡ Some (word, rest) → (text ≡ key ++ 32 ∷ rest → x ≡ Some line → IsLine text line) → (y ≡ Some line → IsLine text line) → (t : Bool) → bytes_eq word key ≡ t → cond t x y ≡ Some line → IsLine text line
-  behind_word word rest key x y line cut here more true b e = here ((cut_is 32 text (word, rest) cut).whole ∙ ap (λ (w : List ℕ). w ++ 32 ∷ rest) (bytes_are word key b)) e
+  behind_word word rest key x y line cut here more true b e = here ((cut_is 32 text _ cut).whole ∙ ap (λ (w : List ℕ). w ++ 32 ∷ rest) (bytes_are word key b)) e
   behind_word word rest key x y line cut here more false b e = more e
 
   parts_line : (line : ScriptLine) (o : Option (List ℕ × List ℕ)) → cut_at 32 text ≡ o → by_parts text o ≡ Some line → IsLine text line
   parts_line line None cut e = code_line line e
   parts_line line (Some (word, rest)) cut e =
-      behind_word word rest (codes "observer") (observer_of rest) (by_command text (word, rest)) line cut (made_line (passing is_snapshots_text) (λ n. observer n) (codes "observer") (λ n h. refl) (λ n h. h) text rest line)
+      behind_word word rest _ _ _ line cut (made_line (passing is_snapshots_text) (λ n. observer n) (codes "observer") (λ n h. refl) (λ n h. h) text rest line)
       (behind_word word rest (codes "load") (option_map (λ refs. load refs) (refs_reading rest)) _ line cut (made_line references (λ rs. load rs) (codes "load") (λ rs h. load_is rs h.0) (λ rs h. load_sound rs h) text rest line)
-      (behind_word word rest (codes "spawn") (option_map spawn_of (call_reading rest)) (by_other text (word, rest)) line cut (made_line call_reader spawn_of (codes "spawn") (λ c h. refl) (λ c h. h) text rest line)
-      (behind_word word rest (codes "trace") (option_map trace_of (trace_reading rest)) _ line cut (made_line trace_reader trace_of (codes "trace") (λ t h. refl) (λ t h. h) text rest line)
-      (behind_word word rest (codes "put") (option_map put_of (put_reading rest)) (by_word (command_reading word) rest (option_map (λ l. code l) (line_reading text))) line cut (made_line put_reader put_of (codes "put") (λ p h. refl) (λ p h. h) text rest line)
-      (atom_line word rest line cut (command_reading word) refl)
-      (bytes_eq word (codes "put")) refl)
-      (bytes_eq word (codes "trace")) refl)
-      (bytes_eq word (codes "spawn")) refl)
-      (bytes_eq word (codes "load")) refl)
-      (bytes_eq word (codes "observer")) refl e
+      (behind_word word rest (codes "spawn") _ _ line cut (made_line call_reader spawn_of (codes "spawn") (λ c h. refl) (λ c h. h) text rest line)
+      (behind_word word rest (codes "trace") _ _ line cut (made_line trace_reader trace_of (codes "trace") (λ t h. refl) (λ t h. h) text rest line)
+      (behind_word word rest (codes "put") _ (by_word (command_reading word) rest (option_map (λ l. code l) (line_reading text))) line cut (made_line put_reader put_of (codes "put") (λ p h. refl) (λ p h. h) text rest line)
+      (atom_line word rest line cut _ refl)
+      _ refl)
+      _ refl)
+      _ refl)
+      _ refl)
+      _ refl e
 
   -- ---- a text
 

@@ -27,9 +27,8 @@ one_step : (line : ScriptLine) (number : ℕ) (s next : Known) (last : Bool) →
 one_step line number s next last h sound short e goes_on =
     let text = script_line_written line in
     let small : nat_lt 4096 (length text) ≡ false = grind (arith, nat_tests) in
-    failed (nat_lt 4096 (length text)) (Err (faults.LineTooLong number)) _ small
-    ∙ failed (last && not (bytes_eq text (codes "go"))) (Err (faults.Syntax number)) _ goes_on
-    ∙ ap (at_line number) (line_text s number text h.room ∙ ap (λ o. or_syntax o >>= step s number) (reads text line (record { text_is = refl; sound = sound })) ∙ e)
+    failed _ _ _ small ∙ failed _ _ _ goes_on
+    ∙ ap (at_line number) (line_text s _ text h.room ∙ ap (λ o. or_syntax o >>= step s number) (reads text line (record { text_is = refl; sound = sound })) ∙ e)
 
 last_step : (line : ScriptLine) (t : Bool) → (t ≡ true → line ≡ go) → (t && not (bytes_eq (script_line_written line) (codes "go"))) ≡ false
 last_step line false is = refl
@@ -78,7 +77,7 @@ module _ (text : List ℕ) (before : List ScriptLine) (known : Known) where
   known_comes (Some number) a e = record { lines = before; known = known; whole = a; first = e }
 
   no_text : IsPrefix text before known [] → (lines_of_text text).tail ≡ [] → before ≡ [] → FaultOf text (faults.Syntax (length before + 1))
-  no_text p none empty = inl (no_bytes text (p.cut ∙ append-nil _ ∙ ap (map script_line_written) empty) none, ap (λ (ls : List ScriptLine). length ls + 1) empty)
+  no_text p none empty = inl (no_bytes text (p.cut ∙ append-nil _ ∙ ap (map _) empty) none, ap (λ (ls : List ScriptLine). length ls + 1) empty)
 
   -- no line is left, and the text ends with a line feed, or is empty
   nothing_left : (p : Place) → known.place ≡ p → IsPrefix text before known [] → (lines_of_text text).tail ≡ [] → (before ≡ []) ⊎ (known.place ≡ Finished) → Comes text (ended_at known (length before + 1) p)
@@ -134,7 +133,7 @@ record IsAt (text : List ℕ) (before : List ScriptLine) (known : Known) (line :
 
 module _ (text : List ℕ) (before : List ScriptLine) (known : Known) (line : List ℕ) (texts : Texts) where
   at_reached : IsPrefix text before known (line ∷ texts) → Reaches text before known line
-  at_reached p = reaches text before known (line ∷ texts) (texts ++ as_last_line (lines_of_text text).tail) line p refl
+  at_reached p = reaches text _ known _ _ line p refl
 
   late_at : (form : ScriptLine) (cause : LineCause) → IsAt text before known line texts → IsLine line form → step known (length before + 1) form ≡ Err cause → IsLate cause → FaultyAt text (length before + 1) cause
   late_at form cause at is e late = by_end (has_no_line texts (lines_of_text text).tail) refl at.goes_on
@@ -208,9 +207,9 @@ module _ (text : List ℕ) (before : List ScriptLine) (known : Known) (line : Li
       stops_at false go_is e f g = absurd cc
       stops_at true true e f g = absurd cc
       stops_at true false e f g =
-          let alone = last_alone texts (lines_of_text text).tail e in
-          let all = all_count text before known (line ∷ texts) p in
-          inr (inl (omega (arith, alone, all), λ is. let yes : bytes_eq line (codes "go") ≡ true = ap (λ (l : List ℕ). bytes_eq l (codes "go")) is in absurd cc))
+          let alone = last_alone texts _ e in
+          let all = all_count text _ known _ p in
+          inr (inl (omega arith, λ is. let yes : bytes_eq line (codes "go") ≡ true = ap (λ (l : List ℕ). bytes_eq l (codes "go")) is in absurd cc))
 
       by_last : (t : Bool) → length line ≤ 4096 → (has_no_line texts (lines_of_text text).tail && not (bytes_eq line (codes "go"))) ≡ t → Comes text (go_on (cond t (Err (faults.Syntax (length before + 1))) (at_line (length before + 1) (line_at known (length before + 1) line known.place))) more)
       by_last true short e = inr (record { before = before; known = known; line = line; reached = reached; number_is = refl; short = short; misplaced = stops_at (has_no_line texts (lines_of_text text).tail) (bytes_eq line (codes "go")) refl refl e })
@@ -224,12 +223,11 @@ module _ (text : List ℕ) (before : List ScriptLine) (known : Known) (line : Li
 
 -- the line that the text ends with finishes it
 last_finishes : (known next : Known) (number : ℕ) (line : List ℕ) (form : ScriptLine) → IsLine line form → step known number form ≡ Ok next → (true && not (bytes_eq line (codes "go"))) ≡ false → next.place ≡ Finished
-last_finishes known next number line form is step_is e = by_go (bytes_eq line (codes "go")) refl e
+last_finishes known next number line form is step_is e = by_go _ refl e
   where
     by_go : (t : Bool) → bytes_eq line (codes "go") ≡ t → not t ≡ false → next.place ≡ Finished
     by_go true f g =
-        let same : form ≡ go = one_line line form go is (record { text_is = bytes_are line (codes "go") f; sound = refl }) in
-        go_ends known number next (ap (step known number) (sym same) ∙ step_is)
+        go_ends known _ next (ap (step known number) (sym (one_line line form go is (record { text_is = bytes_are line _ f; sound = refl }))) ∙ step_is)
     by_go false f g = absurd cc
 
 comes_on : (text : List ℕ) (before : List ScriptLine) (known : Known) (texts : Texts) → IsPrefix text before known texts → (has_no_line texts (lines_of_text text).tail ≡ true → (before ≡ []) ⊎ (known.place ≡ Finished)) → Comes text (text_on known (length before + 1) texts (lines_of_text text).tail)
@@ -267,11 +265,11 @@ pub record IsReached (text : List ℕ) (before : List ScriptLine) (known : Known
   pub same : script_reading text ≡ text_on known (length before + 1) others tail
 
 short_reading : (text : List ℕ) → length text ≤ 1048576 → script_reading text ≡ bytes_on opening 1 text
-short_reading text short = let small : nat_lt 1048576 (length text) ≡ false = grind (arith, nat_tests) in failed (nat_lt 1048576 (length text)) (Err faults.FileTooLong) (bytes_on opening 1 text) small
+short_reading text short = let small : nat_lt 1048576 (length text) ≡ false = grind (arith, nat_tests) in failed _ _ _ small
 
 module _ (text : List ℕ) (before : List ScriptLine) (known : Known) where
   line_cut : (line : List ℕ) (h : Reaches text before known line) → (lines_of_text text).ended ≡ written before ++ drop (length before) (lines_of_text text).ended
-  line_cut line h = sym (take-append-drop (length before) (lines_of_text text).ended) ∙ ap (λ (ls : Texts). ls ++ drop (length before) (lines_of_text text).ended) h.before_are.written
+  line_cut line h = sym (take-append-drop _ _) ∙ ap (λ (ls : Texts). ls ++ drop (length before) (lines_of_text text).ended) h.before_are.written
 
   reached : (line : List ℕ) → Reaches text before known line → IsReached text before known line (drop (length before) (lines_of_text text).ended) (lines_of_text text).tail
   reached line h =
@@ -303,13 +301,10 @@ module _ (text : List ℕ) (before : List ScriptLine) (known : Known) where
   too_long : (line : List ℕ) (others : Texts) (tail : List ℕ) → IsReached text before known line others tail → 4096 < length line → script_reading text ≡ Err (faults.LineTooLong (length before + 1))
   too_long line [] [] r long = let nothing = r.at in absurd cc
   too_long line [] (b ∷ bytes) r long =
-      let same = some_is (b ∷ bytes) line r.at in
-      let big : length (b ∷ bytes) ≡ length line = ap (λ (l : List ℕ). length l) same in
-      let test : nat_lt 4096 (length (b ∷ bytes)) ≡ true = grind (arith, nat_tests) in
-      r.same ∙ passed (nat_lt 4096 (length (b ∷ bytes))) (Err (faults.LineTooLong (length before + 1))) _ test
+      let big : length (b ∷ bytes) ≡ length line = ap (λ (l : List ℕ). length l) (some_is _ line r.at) in
+      r.same ∙ passed (nat_lt 4096 (length (b ∷ bytes))) (Err (faults.LineTooLong (length before + 1))) _ (grind (arith, nat_tests))
   too_long line (l ∷ others) tail r long =
-      let same = some_is l line r.at in
-      let big : length l ≡ length line = ap (λ (l : List ℕ). length l) same in
+      let big : length l ≡ length line = ap (λ (l : List ℕ). length l) (some_is l line r.at) in
       let test : nat_lt 4096 (length l) ≡ true = grind (arith, nat_tests) in
       r.same ∙ ap (λ (s : Result Known ScriptFault). go_on s (λ next. text_on next (length before + 1 + 1) others tail)) (passed (nat_lt 4096 (length l)) (Err (faults.LineTooLong (length before + 1))) _ test)
 
@@ -329,7 +324,7 @@ module _ (text : List ℕ) (before : List ScriptLine) (known : Known) where
 line_judged_is : (s : Known) (number : ℕ) (last : Bool) (line : List ℕ) (x : Result Known ScriptFault) → length line ≤ 4096 → cond (last && not (bytes_eq line (codes "go"))) (Err (faults.Syntax number)) (at_line number (line_at s number line s.place)) ≡ x → line_judged s number last line ≡ x
 line_judged_is s number last line x short e =
     let test : nat_lt 4096 (length line) ≡ false = grind (arith, nat_tests) in
-    failed (nat_lt 4096 (length line)) (Err (faults.LineTooLong number)) _ test ∙ e
+    failed _ _ _ test ∙ e
 
 module _ (known : Known) (number : ℕ) (line : List ℕ) where
   -- a line of a form that is refused
@@ -406,7 +401,7 @@ late_line text number cause f (l ∷ others) tail r =
     ∙ ap (λ (n : ℕ). let so : Result Script ScriptFault = Err (fault_at n cause) in so) (sym f.number_is)
   where
     not_end : (others : Texts) (tail : List ℕ) → 0 < length others + length (as_last_line tail) → has_no_line others tail ≡ false
-    not_end [] [] e = absurd (omega (arith, e))
+    not_end [] [] e = absurd (omega arith)
     not_end [] (b ∷ bytes) e = refl
     not_end (l ∷ others) tail e = refl
 

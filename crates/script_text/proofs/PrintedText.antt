@@ -20,9 +20,7 @@ pub lines_of_bytes : (forms : List ScriptLine) → AllByRecursion (λ line. lack
 lines_of_bytes [] h = refl
 lines_of_bytes (line ∷ forms) h =
     let text = script_line_written line in
-    ap lines_of_text (append_assoc text (10 ∷ []) (flat_map script_line_bytes forms))
-    ∙ lines_behind text (flat_map script_line_bytes forms) h.0
-    ∙ ap (λ (w : Lines). lines (text ∷ w.ended) w.tail) (lines_of_bytes forms h.1)
+    ap lines_of_text (append_assoc text _ _) ∙ lines_behind text _ h.0 ∙ ap (λ (w : Lines). lines (text ∷ w.ended) w.tail) (lines_of_bytes forms h.1)
 
 -- the bytes of lines of module texts
 pub codes_bytes : (codes : List LineForm) (more : List ScriptLine) → flat_map script_line_bytes (code_form codes ++ more) ≡ lines_written codes ++ flat_map script_line_bytes more
@@ -44,7 +42,7 @@ module _ (names : Texts) where
 
   -- the text of a load
   pub load_written : (refs : List ModRef) → script_line_written (load (map (ref_form names) refs)) ≡ codes "load" ++ flat_map (λ r. 32 ∷ ref_written (ref_form names r)) refs
-  load_written refs = ap (λ (t : List ℕ). codes "load" ++ t) (flat_map-map (λ r. 32 ∷ ref_written r) (ref_form names) refs)
+  load_written refs = ap (λ (t : List ℕ). codes "load" ++ t) (flat_map-map (λ r. 32 ∷ ref_written r) _ refs)
 
   -- the text of a loader block
   pub block_written : (commands : List ScriptCmd) → block_bytes names commands ≡ codes "loader\n" ++ flat_map (λ command. script_line_bytes (command_line names command)) commands
@@ -57,7 +55,7 @@ module _ (names : Texts) where
   -- the text of terms: the first, and the others with a comma before each
   pub terms_written : (terms others : List Term) (first : Term) → terms ≡ first ∷ others → parted (row_of (map (term_form names) (map plain terms))) ≡ term_text names first ++ flat_map (λ term. 44 ∷ term_text names term) others
   terms_written terms others first e =
-      ap (λ (ts : List Term). parted (row_of (map (term_form names) (map plain ts)))) e ∙ ap (λ (l : List ℕ). term_text names first ++ l) (behind_written others)
+      ap (λ (ts : List Term). parted (row_of (map (term_form names) (map plain ts)))) e ∙ ap (λ (l : List ℕ). term_text names first ++ l) (behind_written _)
 
   blocks_bytes : (loaders : List (List ScriptCmd)) → flat_map script_line_bytes (flat_map (block_form names) loaders) ≡ flat_map (block_bytes names) loaders
   blocks_bytes [] = refl
@@ -69,7 +67,7 @@ module _ (names : Texts) where
       let blocks = flat_map (block_form names) loaders in
       flat_map-append script_line_bytes (observer_form counts) (blocks ++ go ∷ [])
       ∙ (λ i. flat_map-map script_line_bytes (λ count. observer (decimal count)) counts i ++ flat_map-append script_line_bytes blocks (go ∷ []) i)
-      ∙ ap (λ (l : List ℕ). flat_map observer_bytes counts ++ (l ++ codes "go\n")) (blocks_bytes loaders)
+      ∙ ap (λ (l : List ℕ). flat_map observer_bytes counts ++ (l ++ codes "go\n")) (blocks_bytes _)
 
 -- the text of a script: the head, the modules, the observers, the loader blocks and the end
 pub script_written : (s : Script) → canonical_text s ≡ codes "beam script 1\n" ++ (flat_map (λ m. lines_written (module_lines s.names m)) s.modules ++ (flat_map observer_bytes s.observers ++ (flat_map (block_bytes s.names) s.loaders ++ codes "go\n")))
@@ -82,7 +80,7 @@ script_written s =
 
 -- the line at the front is long, or another is
 pub any_long : (rest : List ℕ) (line behind : List ℕ) → cut_at 10 rest ≡ Some (line, behind) → list_any is_long_line (lines_of_text rest).ended ≡ (is_long_line line || list_any is_long_line (lines_of_text behind).ended)
-any_long rest line behind cut = ap (λ (w : Lines). list_any is_long_line w.ended) (lines_of_cut rest (line, behind) cut)
+any_long rest line behind cut = ap (λ (w : Lines). list_any is_long_line w.ended) (lines_of_cut rest _ cut)
 
 -- where there is no line, none is long
 pub none_long : (rest : List ℕ) → cut_at 10 rest ≡ None → list_any is_long_line (lines_of_text rest).ended ≡ false
@@ -93,20 +91,15 @@ none_long rest uncut = ap (λ (w : Lines). list_any is_long_line w.ended) (lines
 -- a load of which all modules are written
 pub load_at : (names : Texts) (refs : List ModRef) (i : ℕ) (start out : List ℕ) → out ≡ (start ++ codes "load") ++ flat_map (λ r. 32 ∷ ref_written (ref_form names r)) (take i refs) → length refs ≤ i → out ≡ start ++ script_line_written (load (map (ref_form names) refs))
 load_at names refs i start out so_far past =
-    let each : ModRef → List ℕ = λ r. 32 ∷ ref_written (ref_form names r) in
-    so_far
-    ∙ ap (λ (rs : List ModRef). (start ++ codes "load") ++ flat_map each rs) (take_all i refs past)
-    ∙ append_assoc start (codes "load") (flat_map each refs)
-    ∙ ap (λ (t : List ℕ). start ++ t) (sym (load_written names refs))
+    so_far ∙ ap (λ (rs : List ModRef). (start ++ codes "load") ++ flat_map (λ r. 32 ∷ ref_written (ref_form names r)) rs) (take_all i refs past)
+    ∙ append_assoc start _ _ ∙ ap (λ (t : List ℕ). start ++ t) (sym (load_written names refs))
 
 -- a block of which all commands are written
 pub block_at : (names : Texts) (commands : List ScriptCmd) (i : ℕ) (start out : List ℕ) → out ≡ (start ++ codes "loader\n") ++ flat_map (λ command. script_line_bytes (command_line names command)) (take i commands) → length commands ≤ i → out ≡ start ++ block_bytes names commands
 block_at names commands i start out so_far past =
-    let each : ScriptCmd → List ℕ = λ command. script_line_bytes (command_line names command) in
     so_far
-    ∙ ap (λ (cs : List ScriptCmd). (start ++ codes "loader\n") ++ flat_map each cs) (take_all i commands past)
-    ∙ append_assoc start (codes "loader\n") (flat_map each commands)
-    ∙ ap (λ (t : List ℕ). start ++ t) (sym (block_written names commands))
+    ∙ ap (λ (cs : List ScriptCmd). (start ++ codes "loader\n") ++ flat_map (λ command. script_line_bytes (command_line names command)) cs) (take_all i _ past)
+    ∙ append_assoc start _ _ ∙ ap (λ (t : List ℕ). start ++ t) (sym (block_written names _))
 
 regroup : (start a b c d e : List ℕ) → ((((start ++ a) ++ b) ++ c) ++ d) ++ e ≡ start ++ (a ++ (b ++ (c ++ (d ++ e))))
 regroup start a b c d e = simp append_assoc
@@ -122,7 +115,6 @@ script_at r s start headed moduled observed loaded whole e f g h k =
     let modules = flat_map (λ m. lines_written (module_lines s.names m)) s.modules in
     let observers = flat_map observer_bytes s.observers in
     let loaders = flat_map (block_bytes s.names) s.loaders in
-    IfOk-equal r whole (loaded ++ codes "go\n") (start ++ canonical_text s) k
+    IfOk-equal r whole _ _ k
     (ap (λ (t : List ℕ). t ++ codes "go\n") (h ∙ ap (λ (t : List ℕ). t ++ loaders) (g ∙ ap (λ (t : List ℕ). t ++ observers) (f ∙ ap (λ (t : List ℕ). t ++ modules) e)))
-    ∙ regroup start (codes "beam script 1\n") modules observers loaders (codes "go\n")
-    ∙ ap (λ (t : List ℕ). start ++ t) (sym (script_written s)))
+    ∙ regroup start _ _ _ _ _ ∙ ap (λ (t : List ℕ). start ++ t) (sym (script_written s)))

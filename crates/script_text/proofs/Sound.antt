@@ -1,5 +1,5 @@
 -- The script that a text says is one: its modules can be loaded, each load and each spawn can be made, and it is within the limits.
-use Rattle.std.proofs.Common.{◌≡◌, ℕ, zero, suc, ◌<◌, ◌==◌, true, false, List, [], ◌∷◌, ◌++◌, map}
+use Rattle.std.proofs.Common.{◌≡◌, ℕ, zero, suc, ◌<◌, true, false, List, [], ◌∷◌, ◌++◌, map}
 use Rattle.std.proofs.Common.{Some, slice_get, sym, ap, ◌∙◌, subst, arith, append-nil}
 use Rattle.script_text.proofs.Common.{AllByRecursion, and_from, Decides-eqb, Texts}
 use Rattle.script_text.proofs.Types.{AtomId, Module, Script, ScriptCmd}
@@ -18,19 +18,17 @@ apart_from m [] j n apart at name version = absurd cc
 apart_from m (t ∷ ms) zero n apart at name version =
     let is : t ≡ n = some_is t n at in
     let names = (Decides-eqb t.name.0 m.name.0).1 (ap (λ (x : Module). x.name.0) is ∙ sym (ap (λ (a : AtomId). a.0) name)) in
-    let versions = (Decides-eqb t.version m.version).1 (ap (λ (x : Module). x.version) is ∙ sym version) in
-    let same = and_from (t.name.0 == m.name.0) (t.version == m.version) names versions in
-    let both : true ≡ false = sym same ∙ apart.0 in
+    let both : true ≡ false = sym (and_from _ _ names ((Decides-eqb t.version m.version).1 (ap (λ (x : Module). x.version) is ∙ sym version))) ∙ apart.0 in
     absurd cc
 apart_from m (t ∷ ms) (suc j) n apart at name version = apart_from m ms j n apart.1 at name version
 
 modules_apart : (ms : List Module) → AreApart (map ref_of ms) → (i j : ℕ) (m n : Module) → i < j → slice_get ms i ≡ Some m → slice_get ms j ≡ Some n → m.name ≡ n.name → m.version ≡ n.version → ⊥
 modules_apart [] apart i j m n less at there name version = absurd cc
-modules_apart (t ∷ ms) apart i zero m n less at there name version = absurd (omega (arith, less))
+modules_apart (t ∷ ms) apart i zero m n less at there name version = absurd (omega arith)
 modules_apart (t ∷ ms) apart zero (suc j) m n less at there name version =
     let is : t ≡ m = some_is t m at in
     apart_from t ms j n apart.0 there (ap (λ (x : Module). x.name) is ∙ name) (ap (λ (x : Module). x.version) is ∙ version)
-modules_apart (t ∷ ms) apart (suc i) (suc j) m n less at there name version = modules_apart ms apart.1 i j m n (omega (arith, less)) at there name version
+modules_apart (t ∷ ms) apart (suc i) (suc j) m n less at there name version = modules_apart ms apart.1 i j m n (omega arith) at there name version
 
 -- ---- commands
 
@@ -48,7 +46,7 @@ module _ (names : Texts) (texts : List Module) where
 module _ (text : List ℕ) (s : Script) (t : ScriptText text s) where
   -- no line of a text has a line feed
   pub feeds_lack : LackFeeds t.lines
-  feeds_lack = lack_of_forms t.lines (subst (λ (ls : Texts). AllByRecursion (λ line. lacks 10 line ≡ true) ls) t.whole.lines_are.written (ended_lack text))
+  feeds_lack = lack_of_forms _ (subst (λ (ls : Texts). AllByRecursion (λ line. lacks 10 line ≡ true) ls) t.whole.lines_are.written (ended_lack text))
 
   -- what a text tells
   pub text_told : IsTold t.known.names t.lines t.known

@@ -2,13 +2,12 @@
 use Rattle.script_text.proofs.Common.{◌≡◌, ℕ, ◌+◌, ◌<◌, ◌≤◌, Bool, true, false, cond, List, [], ◌∷◌, ◌++◌, length, Option, Some, None, Ok, refl, sym}
 use Rattle.script_text.proofs.Common.{subst, arith, length-append, Texts, nat_le, nat_lt, Result, Err, ◌∙◌, IfSome}
 use Rattle.script_text.proofs.Texts.{test_not_lt, names_with_all}
-use Rattle.script_text.proofs.Modules.{LineForm, title, last_line, names_after, overfills_names, has_high_register}
-use Rattle.script_text.proofs.Modules.{has_wide_integer, has_long_term, is_seventeenth, ends_too_long}
-use Rattle.script_text.proofs.Modules.{is_repeated, fault_of_line, may_follow, counted_name, IsTitled, unsettled_line, judged, kept}
+use Rattle.script_text.proofs.Modules.{LineForm, title, names_after}
+use Rattle.script_text.proofs.Modules.{fault_of_line, counted_name, IsTitled, unsettled_line, judged, kept}
 use Rattle.script_text.proofs.Types.{Place, Between, Within, Observing, Loading, Unread, Finished, Mfa, LineFault, ModRef, LineCause}
 use Rattle.script_text.proofs.Forms.{ScriptLine, RefForm, head, code, observer, loader, load, on_atom, put, trace, spawn, go, script_line_atoms}
-use Rattle.script_text.proofs.Forms.{or_else, is_wide, is_long, ◌>>=◌, passes_functions, is_among, ref_added, counted_added, passes_counted}
-use Rattle.script_text.specs.LineStep.{Known, opening, is_text_end, closed_by, text_closed, loads_given, step, steps, by_code, step_titled}
+use Rattle.script_text.proofs.Forms.{or_else, is_wide, is_long, ◌>>=◌, passes_functions, ref_added, counted_added}
+use Rattle.script_text.specs.LineStep.{Known, opening, closed_by, text_closed, loads_given, step, steps, by_code, step_titled}
 use Rattle.script_text.specs.LineStep.{step_title, code_judged, step_code, names_added, spawned_in, processes_with, step_named}
 use Rattle.script_text.specs.LineStep.{step_command, step_head, step_within, step_observing, step_between, step_loading, step_at}
 use Rattle.script_text.specs.declared.reading.cause.LineCause.TheVariants as causes
@@ -33,22 +32,22 @@ pub record IsKept (s : Known) (number : ℕ) : Type 0 where
 
 later : (number : ℕ) (o : Option ℕ) → IfSome o (λ line. line < number) → IfSome o (λ line. line < number + 1)
 later number None h = tt
-later number (Some line) h = omega (arith, h)
+later number (Some line) h = omega arith
 
 noted_too : (number : ℕ) (o : Option ℕ) (line : ℕ) → IfSome o (λ l. l < number) → line < number + 1 → IfSome (or_else o (Some line)) (λ l. l < number + 1)
 noted_too number None line h k = k
-noted_too number (Some l) line h k = omega (arith, h)
+noted_too number (Some l) line h k = omega arith
 
 noted_if : (number : ℕ) (o : Option ℕ) (t : Bool) → IfSome o (λ l. l < number) → IfSome (cond t o (or_else o (Some number))) (λ l. l < number + 1)
-noted_if number o true h = later number o h
-noted_if number o false h = noted_too number o number h (omega arith)
+noted_if number o true h = later _ o h
+noted_if number o false h = noted_too _ o _ h (omega arith)
 
 own_names : (high wide big names functions long repeated : Bool) → cond high (Some line_faults.Register) (cond wide (Some line_faults.Int) (cond big (Some line_faults.Term) (cond names (Some line_faults.Names) (cond functions (Some line_faults.TooManyFunctions) (cond long (Some line_faults.TooLong) (cond repeated (Some line_faults.Duplicate) None)))))) ≡ None → names ≡ false
 own_names false false false false functions long repeated e = refl
 own_names high wide big names functions long repeated e = absurd cc
 
 pub room_after : (names : Texts) (lines : List LineForm) (line : LineForm) → fault_of_line names lines line ≡ None → length (names_after names line) ≤ 4096
-room_after names lines line e = test_not_lt 4096 (length (names_after names line)) (own_names (has_high_register line) (has_wide_integer line) (has_long_term line) (overfills_names names line) (is_seventeenth lines line) (ends_too_long names lines line) (is_repeated lines line) e)
+room_after names lines line e = test_not_lt 4096 _ (own_names _ _ _ _ _ _ _ e)
 
 -- outside of module texts none is open
 pub none_open : (s : Known) (number : ℕ) (p : Place) → IsOutside p → IsOpenAt s number p → s.lines ≡ []
@@ -62,19 +61,18 @@ opened number line [] e t = (t, refl)
 opened number line (l ∷ ls) e t = absurd cc
 
 closed_kept : (s : Known) (number : ℕ) → length s.names ≤ 4096 → IsTitled s.lines × (s.title + length s.lines ≡ number + 1) → s.place ≡ Within → IfSome s.unknown (λ line. line < number) → IsKept (text_closed s) (number + 1)
-closed_kept s number room open_at within noted = by_end (is_text_end (last_line s.lines)) (unsettled_line s.lines) refl
+closed_kept s number room open_at within noted = by_end _ _ refl
   where
     by_end : (t : Bool) (o : Option ℕ) → unsettled_line s.lines ≡ o → IsKept (cond t (closed_by s o) s) (number + 1)
-    by_end true None e = record { room = room; open_at = refl; noted = later number s.unknown noted }
+    by_end true None e = record { room = room; open_at = refl; noted = later _ _ noted }
     by_end true (Some place) e =
         let inside = unsettled_within s.lines place e in
-        let sum = open_at.1 in
-        record { room = room; open_at = refl; noted = noted_too number s.unknown (s.title + place) noted (omega (arith, inside, sum)) }
-    by_end false o e = record { room = room; open_at = subst (IsOpenAt s (number + 1)) (sym within) open_at; noted = later number s.unknown noted }
+        record { room = room; open_at = refl; noted = noted_too number s.unknown (s.title + place) noted (omega (arith, open_at.1)) }
+    by_end false o e = record { room = room; open_at = subst (IsOpenAt s (number + 1)) (sym within) open_at; noted = later _ _ noted }
 
 -- what is known with a line more
 pub kept_by : (s : Known) (number : ℕ) {line : ScriptLine} {next : Known} → IsKept s number → Move s number line next → IsKept next (number + 1)
-kept_by s number h (begins place) = record { room = h.room; open_at = subst (IsOpenAt s number) place h.open_at; noted = later number s.unknown h.noted }
+kept_by s number h (begins place) = record { room = h.room; open_at = subst (IsOpenAt s number) place h.open_at; noted = later _ _ h.noted }
 kept_by s number h (opens r place is new) = record {
   room = room_after s.names s.lines (title r.name r.version) is.within;
   open_at = opened number (title r.name r.version) s.lines (subst (IsOpenAt s number) place h.open_at) tt;
@@ -83,10 +81,10 @@ kept_by s number h (opens r place is new) = record {
 kept_by s number h (writes line functions place is few) =
     let o = subst (IsOpenAt s number) place h.open_at in
     let sum = o.1 in
-    closed_kept (record s { names = names_after s.names line; lines = s.lines ++ line ∷ []; functions = functions }) number (room_after s.names s.lines line is.within) (titled_more s.lines line o.0, omega (arith, sum, length-append s.lines (line ∷ []))) place h.noted
-kept_by s number h (observes count front few) = record { room = h.room; open_at = none_open s number s.place (front_outside s.place front) h.open_at; noted = later number s.unknown h.noted }
-kept_by s number h (blocks out few) = record { room = h.room; open_at = none_open s number s.place out h.open_at; noted = later number s.unknown h.noted }
-kept_by s number h (ends out) = record { room = h.room; open_at = none_open s number s.place out h.open_at; noted = later number s.unknown h.noted }
+    closed_kept (record s { names = names_after s.names line; lines = s.lines ++ line ∷ []; functions = functions }) number (room_after s.names s.lines line is.within) (titled_more s.lines line o.0, omega (arith, length-append s.lines (line ∷ []))) place h.noted
+kept_by s number h (observes count front few) = record { room = h.room; open_at = none_open s _ _ (front_outside _ front) h.open_at; noted = later _ _ h.noted }
+kept_by s number h (blocks out few) = record { room = h.room; open_at = none_open s _ _ out h.open_at; noted = later _ _ h.noted }
+kept_by s number h (ends out) = record { room = h.room; open_at = none_open s _ _ out h.open_at; noted = later _ _ h.noted }
 kept_by s number h (commands line functions processes place is passed few some) = record {
   room = passed.room;
   open_at = subst (IsOpenAt (with_command s number line functions processes) (number + 1)) (sym place) (subst (IsOpenAt s number) place h.open_at);
@@ -115,7 +113,7 @@ text_goes_on s false o within e = let both : Within ≡ Finished = sym within �
 
 -- what ends a script is `go`
 pub go_only : (s : Known) (number : ℕ) {line : ScriptLine} {next : Known} → Move s number line next → next.place ≡ Finished → line ≡ go
-go_only s number (writes line functions place is few) e = absurd (text_goes_on (with_line s line functions) (is_text_end (last_line (s.lines ++ line ∷ []))) (unsettled_line (s.lines ++ line ∷ [])) place e)
+go_only s number (writes line functions place is few) e = absurd (text_goes_on (with_line s line functions) _ (unsettled_line (s.lines ++ line ∷ [])) place e)
 go_only s number (ends out) e = refl
 go_only s number (commands line functions processes place is passed few some) e = let both : Loading ≡ Finished = sym place ∙ e in absurd cc
 go_only s number m e = absurd cc
@@ -139,7 +137,7 @@ part_on (Err causes.Duplicate) f h k = tt
 part_on (Err causes.NoMemory) f h k = absurd h
 
 title_part : (titles : List ModRef) (r : ModRef) → IsPart (ref_added titles r)
-title_part titles r = by_test (is_among titles r)
+title_part titles r = by_test _
   where
     by_test : (t : Bool) → IsPart (cond {A = Result (List ModRef) LineCause} t (Err causes.Duplicate) (Ok (titles ++ r ∷ [])))
     by_test true = tt
@@ -170,11 +168,11 @@ own_fault_is false false false false false false true = tt
 own_fault_is false false false false false false false = tt
 
 own_is : (names : Texts) (lines : List LineForm) (line : LineForm) → IsOwn (fault_of_line names lines line)
-own_is names lines line = own_fault_is (has_high_register line) (has_wide_integer line) (has_long_term line) (overfills_names names line) (is_seventeenth lines line) (ends_too_long names lines line) (is_repeated lines line)
+own_is names lines line = own_fault_is _ _ _ _ _ _ _
 
 title_step_part : (s : Known) (number : ℕ) (r : RefForm) → IsPart (step_title s number r)
 unfolding IsOwn
-title_step_part s number r = by_fault (may_follow (last_line s.lines) (title r.name r.version)) (fault_of_line s.names s.lines (title r.name r.version)) (own_is s.names s.lines (title r.name r.version))
+title_step_part s number r = by_fault _ _ (own_is s.names s.lines (title r.name r.version))
   where
     by_fault : (t : Bool) (o : Option LineFault) → IsOwn o → IsPart (by_code (cond t (kept s.names s.lines (title r.name r.version) o) (judged s.names s.lines None)) >>= step_titled s number r)
     by_fault true None own = part_on (ref_added s.titles _) _ (title_part s.titles _) (λ titles. tt)
@@ -184,7 +182,7 @@ title_step_part s number r = by_fault (may_follow (last_line s.lines) (title r.n
 
 code_step_part : (s : Known) (line : LineForm) → IsPart (step_code s line)
 unfolding IsOwn
-code_step_part s line = by_fault (may_follow (last_line s.lines) line) (fault_of_line s.names s.lines line) (own_is s.names s.lines line)
+code_step_part s line = by_fault _ _ (own_is _ s.lines line)
   where
     again : (t : Bool) → IsPart {A = Known} (Err (cond t (causes.Limit which.Exports) causes.Duplicate))
     again true = tt
@@ -193,7 +191,7 @@ code_step_part s line = by_fault (may_follow (last_line s.lines) line) (fault_of
     by_fault : (t : Bool) (o : Option LineFault) → IsOwn o → IsPart (code_judged s line (cond t (kept s.names s.lines line o) (judged s.names s.lines None)))
     by_fault true None own = part_on (counted_added s.functions (counted_name (names_after s.names line) (s.lines ++ line ∷ []) line)) (λ functions. Ok (text_closed (with_line s line functions))) (counted_part s.functions (counted_name (names_after s.names line) (s.lines ++ line ∷ []) line)) (λ functions. tt)
     by_fault true (Some line_faults.NoMemory) own = absurd own
-    by_fault true (Some line_faults.Duplicate) own = again (passes_counted s.functions (counted_name s.names s.lines line))
+    by_fault true (Some line_faults.Duplicate) own = again _
     by_fault true (Some fault) own = tt
     by_fault false o own = tt
 
@@ -208,13 +206,13 @@ module _ (s : Known) (number : ℕ) where
   command_part line =
       part_if which.Integer _ (is_wide line) (part_if which.Term (names_added s.names line >>= step_named s number line) (is_long line)
       (part_on (names_added s.names line) (step_named s number line) (part_if which.Names (Ok after) (nat_lt 4096 (length after)) tt)
-      (λ names. part_on (counted_added s.functions (spawned_in names line)) _ (counted_part s.functions (spawned_in names line)) (λ functions. part_on (processes_with s.processes line) _ (processes_part s.processes line) (λ processes. tt)))))
+      (λ names. part_on (counted_added s.functions (spawned_in names line)) _ (counted_part s.functions (spawned_in names line)) (λ functions. part_on _ _ (processes_part s.processes line) (λ processes. tt)))))
     where
       after : Texts
       after = names_with_all s.names (script_line_atoms line)
 
   between_part : (line : ScriptLine) → IsPart (step_between s number line)
-  between_part (code (title name version)) = title_step_part s number (record { name = name; version = version })
+  between_part (code (title name version)) = title_step_part s _ _
   between_part (observer count) = observing_part s (observer count)
   between_part loader = observing_part s loader
   between_part go = tt
@@ -239,12 +237,12 @@ within_part s line = tt
 
 -- want of memory is no cause of a line
 pub never_wanting : (s : Known) (number : ℕ) (line : ScriptLine) → step s number line ≡ Err causes.NoMemory → ⊥
-never_wanting s number line e = subst IsPart e (by_place s.place)
+never_wanting s number line e = subst IsPart e (by_place _)
   where
     by_place : (p : Place) → IsPart (step_at s number p line)
     by_place Unread = head_part s line
-    by_place Between = between_part s number line
+    by_place Between = between_part s _ line
     by_place Within = within_part s line
     by_place Observing = observing_part s line
-    by_place Loading = loading_part s number line
+    by_place Loading = loading_part s _ line
     by_place Finished = tt

@@ -6,7 +6,7 @@ use Rattle.script_text.proofs.Types.{LineCause, Place, Between, Observing, Loadi
 use Rattle.script_text.proofs.Forms.{ScriptLine, go, is_script_line, RefForm, head, code, observer, loader, load, on_atom, put, trace, spawn, ◌>>=◌}
 use Rattle.script_text.proofs.Forms.{onto_last, script_line_atoms, ref_in, commands_on, or_else, is_wide, is_long, is_among, counted_added}
 use Rattle.script_text.specs.LineStep.{Known, step_at, step, steps, by_code, step_titled, step_title, text_closed, code_judged}
-use Rattle.script_text.specs.LineStep.{step_code, names_added, spawned_in, processes_with, loads_given, step_named}
+use Rattle.script_text.specs.LineStep.{step_code, spawned_in, processes_with, loads_given, step_named}
 use Rattle.script_text.specs.LineStep.{step_command, step_head, step_within, step_observing, step_between, step_loading}
 use Rattle.script_text.specs.declared.reading.cause.LineCause.TheVariants as causes
 use Rattle.script_text.specs.declared.fault.Which.TheVariants as which
@@ -39,10 +39,8 @@ steps-append s number [] ys known e =
     λ i. steps (same i) (here i) ys
 steps-append s number (l ∷ xs) ys known e =
     let first = bind_ok (step s number l) (λ next. steps next (number + 1) xs) known e in
-    let here : length xs + (number + 1) ≡ length (l ∷ xs) + number = omega arith in
-    ap (λ (x : Result Known LineCause). x >>= λ next. steps next (number + 1) (xs ++ ys)) first.1
-    ∙ steps-append first.0 (number + 1) xs ys known first.2
-    ∙ ap (λ (n : ℕ). steps known n ys) here
+    ap (λ (x : Result Known LineCause). x >>= λ next. steps next (number + 1) (xs ++ ys)) first.1 ∙ steps-append first.0 (number + 1) xs ys known first.2
+    ∙ ap (λ (n : ℕ). steps known n ys) (omega arith)
 
 bind_self : {A : Type 0} (x : Result A LineCause) → (x >>= λ y. Ok y) ≡ x
 bind_self (Ok a) = refl
@@ -50,16 +48,16 @@ bind_self (Err cause) = refl
 
 -- a line more
 pub steps-snoc : (s : Known) (number : ℕ) (lines : List ScriptLine) (line : ScriptLine) (known : Known) → steps s number lines ≡ Ok known → steps s number (lines ++ line ∷ []) ≡ step known (length lines + number) line
-steps-snoc s number lines line known e = steps-append s number lines (line ∷ []) known e ∙ bind_self (step known (length lines + number) line)
+steps-snoc s number lines line known e = steps-append s _ lines _ known e ∙ bind_self _
 
 -- ---- the end
 
 ended : (s next : Known) → ◌≡◌ {A = Result Known LineCause} (Ok (record s { place = Finished })) (Ok next) → next.place ≡ Finished
-ended s next e = ap (λ (k : Known). k.place) (sym (ok_is (record s { place = Finished }) next e))
+ended s next e = ap (λ (k : Known). k.place) (sym (ok_is _ next e))
 
 -- `go` ends the script
 pub go_ends : (s : Known) (number : ℕ) (next : Known) → step s number go ≡ Ok next → next.place ≡ Finished
-go_ends s number next e = by_place s.place e
+go_ends s number next e = by_place _ e
   where
     by_place : (p : Place) → step_at s number p go ≡ Ok next → next.place ≡ Finished
     by_place Between e = ended s next e
@@ -69,7 +67,7 @@ go_ends s number next e = by_place s.place e
 
 -- or may not stand there
 pub go_fails : (s : Known) (number : ℕ) (cause : LineCause) → step s number go ≡ Err cause → cause ≡ causes.Syntax
-go_fails s number cause e = by_place s.place e
+go_fails s number cause e = by_place _ e
   where
     by_place : (p : Place) → step_at s number p go ≡ Err cause → cause ≡ causes.Syntax
     by_place Between e = absurd cc
@@ -160,7 +158,7 @@ moves_on s number line (Ok a) f h = h a refl
 moves_on s number line (Err cause) f h = tt
 
 title_moves : (s : Known) (number : ℕ) (r : RefForm) → s.place ≡ Between → Moves s number (code (title r.name r.version)) (step_title s number r)
-title_moves s number r place = by_fault (may_follow (last_line s.lines) line) (fault_of_line s.names s.lines line) refl refl
+title_moves s number r place = by_fault _ _ refl refl
   where
     line : LineForm
     line = title r.name r.version
@@ -173,21 +171,20 @@ title_moves s number r place = by_fault (may_follow (last_line s.lines) line) (f
     by_new false e is = opens r place is e
 
     by_fault : (t : Bool) (o : Option LineFault) → may_follow (last_line s.lines) (title r.name r.version) ≡ t → fault_of_line s.names s.lines (title r.name r.version) ≡ o → Moves s number (code (title r.name r.version)) (by_code (cond t (kept s.names s.lines (title r.name r.version) o) (judged s.names s.lines None)) >>= step_titled s number r)
-    by_fault true None may e = by_new (is_among s.titles (ref_in (names_after s.names (title r.name r.version)) r)) refl (record { place = may; within = e })
+    by_fault true None may e = by_new _ refl (record { place = may; within = e })
     by_fault true (Some fault) may e = tt
     by_fault false o may e = tt
 
 code_moves : (s : Known) (number : ℕ) (line : LineForm) → s.place ≡ Within → Moves s number (code line) (step_code s line)
-code_moves s number line place = by_fault (may_follow (last_line s.lines) line) (fault_of_line s.names s.lines line) refl refl
+code_moves s number line place = by_fault _ _ refl refl
   where
     by_fault : (t : Bool) (o : Option LineFault) → may_follow (last_line s.lines) line ≡ t → fault_of_line s.names s.lines line ≡ o → Moves s number (code line) (code_judged s line (cond t (kept s.names s.lines line o) (judged s.names s.lines None)))
-    by_fault true None may e = moves_on s number (code line) (counted_added s.functions (counted_name (names_after s.names line) (s.lines ++ line ∷ []) line)) (λ functions. Ok (text_closed (with_line s line functions))) (λ functions f. writes line functions place (record { place = may; within = e }) f)
+    by_fault true None may e = moves_on s _ _ _ (λ functions. Ok _) (λ functions f. writes line functions place (record { place = may; within = e }) f)
     by_fault true (Some fault) may e = tt
     by_fault false o may e = tt
 
 command_moves : (s : Known) (number : ℕ) (line : ScriptLine) → s.place ≡ Loading → IsCommand line → Moves s number line (step_command s number line)
-command_moves s number line place is =
-    moves_if s number line (causes.Limit which.Integer) _ (is_wide line) (λ narrow. moves_if s number line (causes.Limit which.Term) (names_added s.names line >>= step_named s number line) (is_long line) (λ brief. by_room narrow brief (nat_lt 4096 (length after)) refl))
+command_moves s number line place is = moves_if s _ line _ _ _ (λ narrow. moves_if s _ line _ _ _ (λ brief. by_room narrow brief _ refl))
   where
     after : List (List ℕ)
     after = names_with_all s.names (script_line_atoms line)
@@ -195,19 +192,19 @@ command_moves s number line place is =
     by_room : is_wide line ≡ false → is_long line ≡ false → (t : Bool) → nat_lt 4096 (length after) ≡ t → Moves s number line (cond t (Err (causes.Limit which.Names)) (Ok after) >>= step_named s number line)
     by_room narrow brief true e = tt
     by_room narrow brief false e =
-        let passed : IsPassed s line = record { narrow = narrow; brief = brief; room = test_not_lt 4096 (length after) e } in
-        moves_on s number line (counted_added s.functions (spawned_in after line)) (λ functions. processes_with s.processes line >>= λ processes. Ok (with_command s number line functions processes))
-        (λ functions f. moves_on s number line (processes_with s.processes line) (λ processes. Ok (with_command s number line functions processes)) (λ processes p. commands line functions processes place is passed f p))
+        let passed : IsPassed s line = record { narrow = narrow; brief = brief; room = test_not_lt 4096 _ e } in
+        moves_on s _ line _ (λ functions. processes_with s.processes line >>= λ processes. Ok _)
+        (λ functions f. moves_on s number line (processes_with s.processes line) (λ processes. Ok _) (λ processes p. commands line functions processes place is passed f p))
 
 module _ (s : Known) (number : ℕ) where
   observing_moves : (line : ScriptLine) → IsFront s.place → Moves s number line (step_observing s line)
   observing_moves (observer count) front = moves_if s number (observer count) (causes.Limit which.Observers) _ (nat_le 4 (length s.observers)) (λ few. observes count front few)
-  observing_moves loader front = moves_if s number loader (causes.Limit which.Loaders) _ (nat_le 8 (length s.loaders)) (λ few. blocks (front_outside s.place front) few)
-  observing_moves go front = ends (front_outside s.place front)
+  observing_moves loader front = moves_if s number loader (causes.Limit which.Loaders) _ (nat_le 8 (length s.loaders)) (λ few. blocks (front_outside _ front) few)
+  observing_moves go front = ends (front_outside _ front)
   observing_moves line front = tt
 
   between_moves : (line : ScriptLine) → s.place ≡ Between → IsFront s.place → Moves s number line (step_between s number line)
-  between_moves (code (title name version)) place front = title_moves s number (record { name = name; version = version }) place
+  between_moves (code (title name version)) place front = title_moves s _ _ place
   between_moves (observer count) place front = observing_moves (observer count) front
   between_moves loader place front = observing_moves loader front
   between_moves go place front = observing_moves go front
@@ -230,7 +227,7 @@ module _ (s : Known) (number : ℕ) where
   head_moves line place = tt
 
   within_moves : (line : ScriptLine) → s.place ≡ Within → Moves s number line (step_within s line)
-  within_moves (code line) place = code_moves s number line place
+  within_moves (code line) place = code_moves s _ line place
   within_moves line place = tt
 
   -- what is known next is what a move leaves

@@ -2,7 +2,7 @@
 use Rattle.script_text.proofs.Common.{◌≡◌, ℕ, ◌≤◌, true, false, List, [], ◌∷◌, ◌++◌, length, Option, Some, None, is_none, option_map, refl, sym, ap}
 use Rattle.script_text.proofs.Common.{◌∙◌, subst, append_assoc, Texts, append-nil, AllByRecursion}
 use Rattle.script_text.proofs.Texts.{Extends, Extends-refl, Extends-trans, HasNumber}
-use Rattle.script_text.proofs.Modules.{IsModule, LineForm, title, end, line_written, lines_written, is_line_form, may_follow, last_line, line_atoms}
+use Rattle.script_text.proofs.Modules.{IsModule, LineForm, title, end, line_written, is_line_form, may_follow, last_line, line_atoms}
 use Rattle.script_text.proofs.Modules.{names_after, IsNext, title_of, IsTitled, module_of, unsettled_line, FollowOn, names_behind, module_is_sound}
 use Rattle.script_text.proofs.Forms.{is_text_end, Known}
 use Rattle.script_text.proofs.FunctionNames.{home_after_line}
@@ -13,7 +13,7 @@ use Rattle.script_text.proofs.StepMoves.{IsJudged}
 -- ---- a line more
 
 pub follow_more : (names : Texts) (before lines : List LineForm) (line : LineForm) → FollowOn names before lines → IsNext (names_behind names lines) (before ++ lines) (line_written line) line → FollowOn names before (lines ++ line ∷ [])
-follow_more names before [] line follow next = (subst (λ (ls : List LineForm). IsNext names ls (line_written line) line) (append-nil before) next, tt)
+follow_more names before [] line follow next = (subst (λ (ls : List LineForm). IsNext names ls (line_written line) line) (append-nil _) next, tt)
 follow_more names before (l ∷ lines) line follow next =
     (follow.0, follow_more (names_after names l) (before ++ l ∷ []) lines line follow.1 (subst (λ (ls : List LineForm). IsNext (names_behind (names_after names l) lines) ls (line_written line) line) (sym (append_assoc before (l ∷ []) lines)) next))
 
@@ -76,7 +76,7 @@ held_behind names (line ∷ lines) =
 
 pub have_held_in : (names after : Texts) (lines : List LineForm) → Extends names after → HaveHeld names lines → HaveHeld after lines
 have_held_in names after [] e h = tt
-have_held_in names after (line ∷ lines) e h = (all_held_in names after (line_atoms line) e h.0, have_held_in names after lines e h.1)
+have_held_in names after (line ∷ lines) e h = (all_held_in names after _ e h.0, have_held_in names after lines e h.1)
 
 -- ---- a closed text
 
@@ -95,13 +95,13 @@ AreClosed names texts = AllByRecursion (IsClosed names) texts
 pub same_module : (names : Texts) (text : List LineForm) (c : IsClosed names text) → module_of names text ≡ module_of (names_behind c.before text) text
 same_module names text c =
     let after = names_behind c.before text in
-    ap (λ (ns : Texts). module_of ns text) c.among.whole ∙ module_of-more after c.among.more text (titled c.before text end c.follow c.closed) (held_behind c.before text)
+    ap (λ (ns : Texts). module_of ns text) c.among.whole ∙ module_of-more after _ text (titled _ text end c.follow c.closed) (held_behind _ text)
 
 pub text_module : (names : Texts) (text : List LineForm) → IsClosed names text → unsettled_line text ≡ None → IsModule (module_of names text)
 text_module names text c settled =
     let after = names_behind c.before text in
     let m = module_of after text in
-    let is : IsModule m = module_is_sound c.before (lines_written text) m after c.room (record { lines = text; spelled = refl; faultless = c.follow; closed = c.closed; settled = settled; named = refl; value = refl }) in
+    let is : IsModule m = module_is_sound _ _ m after c.room (record { lines = text; spelled = refl; faultless = c.follow; closed = c.closed; settled = settled; named = refl; value = refl }) in
     subst IsModule (sym (same_module names text c)) is
 
 pub unmapped : {X Y : Type 0} (f : X → Y) (o : Option X) → option_map f o ≡ None → o ≡ None

@@ -23,12 +23,12 @@ judged_kept : (r : ScriptReader) (number : ℕ) (last : Bool) (text : List ℕ) 
 judged_kept r number last text next h e = by_long (nat_lt 4096 (length text)) e
   where
     by_step : (line : ScriptLine) (x : Result ScriptReader LineCause) → step r number line ≡ x → at_line number x ≡ Ok next → IsKept next (number + 1)
-    by_step line (Ok k) f e = kept_by r number h (moves r number line next (f ∙ ap (λ (s : ScriptReader). let so : Result ScriptReader LineCause = Ok s in so) (ok_is k next e)))
+    by_step line (Ok k) f e = kept_by r _ h (moves r _ line next (f ∙ ap (λ (s : ScriptReader). let so : Result ScriptReader LineCause = Ok s in so) (ok_is k next e)))
     by_step line (Err cause) f e = absurd cc
 
     by_form : (o : Option ScriptLine) → at_line number (or_syntax o >>= step r number) ≡ Ok next → IsKept next (number + 1)
     by_form None e = absurd cc
-    by_form (Some line) e = by_step line (step r number line) refl e
+    by_form (Some line) e = by_step line _ refl e
 
     by_last : (t : Bool) → cond t (Err (faults.Syntax number)) (at_line number (line_at r number text r.place)) ≡ Ok next → IsKept next (number + 1)
     by_last true e = absurd cc
@@ -45,7 +45,7 @@ some_length x xs = grind (arith, nat_tests)
 
 pub end_test : (bytes : List ℕ) → has_no_line (lines_of_text bytes).ended (lines_of_text bytes).tail ≡ (length bytes == 0)
 end_test [] = refl
-end_test (b ∷ bytes) = by_line_feed (b == 10) ∙ sym (some_length b bytes)
+end_test (b ∷ bytes) = by_line_feed _ ∙ sym (some_length b bytes)
   where
     by_lines : (ended : Texts) (tail : List ℕ) → has_no_line (before_lines b ended tail).ended (before_lines b ended tail).tail ≡ false
     by_lines [] tail = refl
@@ -53,7 +53,7 @@ end_test (b ∷ bytes) = by_line_feed (b == 10) ∙ sym (some_length b bytes)
 
     by_line_feed : (t : Bool) → (let ls = cond t (lines ([] ∷ (lines_of_text bytes).ended) (lines_of_text bytes).tail) (before_lines b (lines_of_text bytes).ended (lines_of_text bytes).tail) in has_no_line ls.ended ls.tail) ≡ false
     by_line_feed true = refl
-    by_line_feed false = by_lines (lines_of_text bytes).ended (lines_of_text bytes).tail
+    by_line_feed false = by_lines _ _
 
 -- ---- how far the reading is
 
@@ -91,8 +91,8 @@ pub at_next : (text : List ℕ) (r : ScriptReader) (number : ℕ) (rest : List �
 at_next text r number rest x next a cut judged =
     let shorter = cut_length rest x cut in
     record {
-      kept = judged_kept r number (length x.1 == 0) x.0 next a.kept judged;
-      same = sym (ap (λ (s : Result ScriptReader ScriptFault). go_on s (λ next. bytes_on next (number + 1) x.1)) judged) ∙ sym (bytes_cut r number rest x cut) ∙ a.same;
+      kept = judged_kept r _ _ x.0 next a.kept judged;
+      same = sym (ap (λ (s : Result ScriptReader ScriptFault). go_on s (λ next. bytes_on next (number + 1) x.1)) judged) ∙ sym (bytes_cut r _ rest x cut) ∙ a.same;
       room = omega (arith, a.room, shorter);
     }
 
@@ -104,19 +104,19 @@ module _ (text : List ℕ) (r : ScriptReader) (number : ℕ) (rest : List ℕ) w
   -- a line was refused
   pub at_fault : (x : List ℕ × List ℕ) (fault : ScriptFault) → AtLine text r number rest → cut_at 10 rest ≡ Some x → FailsWith (line_judged r number (length x.1 == 0) x.0) fault → FailsWith (bytes_on opening 1 text) fault
   at_fault x fault a cut e =
-      subst (λ (s : Result Script ScriptFault). FailsWith s fault) (sym (bytes_cut r number rest x cut) ∙ a.same) (go_on-fails (line_judged r number (length x.1 == 0) x.0) (λ next. bytes_on next (number + 1) x.1) fault e)
+      subst (λ (s : Result Script ScriptFault). FailsWith s fault) (sym (bytes_cut r _ rest x cut) ∙ a.same) (go_on-fails _ (λ next. bytes_on next (number + 1) x.1) fault e)
 
   -- no line is left
   pub at_end : (result : Result Script ScriptFault) → AtLine text r number rest → cut_at 10 rest ≡ None → GivesText (λ s. s) result (text_ended r number rest) → GivesText (λ s. s) result (bytes_on opening 1 text)
-  at_end result a uncut e = subst (λ (s : Result Script ScriptFault). GivesText (λ s. s) result s) (sym (bytes_uncut r number rest uncut) ∙ a.same) e
+  at_end result a uncut e = subst (λ (s : Result Script ScriptFault). GivesText (λ s. s) result s) (sym (bytes_uncut r _ rest uncut) ∙ a.same) e
 
   -- the line that is noted has a small number
   pub unknown_small : AtLine text r number rest → length text ≤ 1048576 → IfSome r.unknown (λ line. line < 4294967296)
-  unknown_small a short = by_unknown r.unknown a.kept.noted
+  unknown_small a short = by_unknown _ a.kept.noted
     where
       by_unknown : (o : Option ℕ) → IfSome o (λ line. line < number) → IfSome o (λ line. line < 4294967296)
       by_unknown None h = tt
-      by_unknown (Some line) h = let room = a.room in omega (arith, h, room, short)
+      by_unknown (Some line) h = let room = a.room in omega (arith, short)
 
 -- ---- the first lines of a text, of which none is refused; the texts behind them
 
@@ -124,7 +124,7 @@ abbrev pub written : List ScriptLine → Texts
 written lines = map script_line_written lines
 
 pub written_length : (lines : List ScriptLine) → length (written lines) ≡ length lines
-written_length lines = length-map lines script_line_written
+written_length lines = length-map lines _
 
 -- these lines stand in front of a text, none is refused, and this is known with them; these texts with a line feed stand behind them
 pub record IsPrefix (text : List ℕ) (before : List ScriptLine) (known : Known) (texts : Texts) : Type 0 where
@@ -139,7 +139,7 @@ at_front text short = record { short = short; cut = refl; sound = tt; short_line
 
 -- the table of names has room there
 pub room_of : (text : List ℕ) (before : List ScriptLine) (known : Known) (texts : Texts) → IsPrefix text before known texts → length known.names ≤ 4096
-room_of text before known texts p = (steps_kept opening 1 before known opening_kept p.known_is).room
+room_of text before known texts p = (steps_kept _ 1 before known opening_kept p.known_is).room
 
 -- ---- lists
 
@@ -175,11 +175,11 @@ module _ (text : List ℕ) (before : List ScriptLine) (known : Known) (texts : T
   pub reaches : (more : Texts) (line : List ℕ) → IsPrefix text before known texts → texts ++ as_last_line (lines_of_text text).tail ≡ line ∷ more → Reaches text before known line
   reaches more line p e =
       let all : all_lines text ≡ written before ++ line ∷ more =
-      ap (λ (ls : Texts). ls ++ as_last_line (lines_of_text text).tail) p.cut ∙ append_assoc (written before) texts (as_last_line (lines_of_text text).tail) ∙ ap (λ (ls : Texts). written before ++ ls) e in
+      ap (λ (ls : Texts). ls ++ as_last_line (lines_of_text text).tail) p.cut ∙ append_assoc _ texts _ ∙ ap (λ (ls : Texts). written before ++ ls) e in
       record {
         short = p.short;
         before_are = record {
-          written = ap (λ (ls : Texts). take (length before) ls) p.cut ∙ ap (λ n. take n (written before ++ texts)) (sym (written_length before)) ∙ take_first (written before) texts;
+          written = ap (λ (ls : Texts). take (length before) ls) p.cut ∙ ap (λ n. take n (written before ++ texts)) (sym (written_length before)) ∙ take_first _ texts;
           sound = p.sound;
           short = p.short_lines;
           known_is = p.known_is;
@@ -203,7 +203,7 @@ module _ (text : List ℕ) (before : List ScriptLine) (known : Known) (texts : T
 -- a text without lines has no bytes
 pub no_bytes : (text : List ℕ) → (lines_of_text text).ended ≡ [] → (lines_of_text text).tail ≡ [] → text ≡ []
 no_bytes [] e f = refl
-no_bytes (b ∷ bytes) e f = absurd (by_line_feed (b == 10) e f)
+no_bytes (b ∷ bytes) e f = absurd (by_line_feed _ e f)
   where
     by_lines : (ended : Texts) (tail : List ℕ) → (before_lines b ended tail).ended ≡ [] → (before_lines b ended tail).tail ≡ [] → ⊥
     by_lines [] tail e f = cc
@@ -211,4 +211,4 @@ no_bytes (b ∷ bytes) e f = absurd (by_line_feed (b == 10) e f)
 
     by_line_feed : (t : Bool) → (let ls = cond t (lines ([] ∷ (lines_of_text bytes).ended) (lines_of_text bytes).tail) (before_lines b (lines_of_text bytes).ended (lines_of_text bytes).tail) in ls.ended ≡ []) → (let ls = cond t (lines ([] ∷ (lines_of_text bytes).ended) (lines_of_text bytes).tail) (before_lines b (lines_of_text bytes).ended (lines_of_text bytes).tail) in ls.tail ≡ []) → ⊥
     by_line_feed true e f = cc
-    by_line_feed false e f = by_lines (lines_of_text bytes).ended (lines_of_text bytes).tail e f
+    by_line_feed false e f = by_lines _ _ e f

@@ -1,7 +1,7 @@
 -- What lines tell of a script, move by move, where nothing is lacking: it is one, and its canonical lines name what they name.
 use Rattle.std.proofs.Common.{◌≡◌, ℕ, ◌+◌, ◌<◌, ◌≤◌, Bool, true, false, cond, List, [], ◌∷◌, ◌++◌, length, map, Option, Some}
 use Rattle.std.proofs.Common.{None, All, Ok, refl, sym, ap, ◌∙◌, subst, arith, append_assoc, append-nil, length-append}
-use Rattle.script_text.proofs.Common.{fold, sum_by, AllByRecursion, flat_map, list_any, or_parts, nat_tests, flat_map-append, map-append, All-nil}
+use Rattle.script_text.proofs.Common.{fold, sum_by, AllByRecursion, flat_map, or_parts, nat_tests, flat_map-append, map-append, All-nil}
 use Rattle.script_text.proofs.Common.{All-push, sum_by-append, Texts, sum_by-cons}
 use Rattle.script_text.proofs.Types.{Mfa, Module, ModRef, ScriptCmd, Place, Between, Within, Observing, Loading, Finished}
 use Rattle.script_text.proofs.Texts.{IsNames, Extends, number_value, names_with_all, Extends-refl}
@@ -101,37 +101,29 @@ pub record IsTold (names : Texts) (done : List ScriptLine) (s : Known) : Type 0 
 -- ---- lists
 
 each_snoc : {X : Type 0} (P : X → Type 0) (xs : List X) (x : X) → AllByRecursion P xs → P x → AllByRecursion P (xs ++ x ∷ [])
-each_snoc P xs x h p = each_append P xs (x ∷ []) h (p, tt)
+each_snoc P xs x h p = each_append P xs _ h (p, tt)
 
 each_onto_last : {X : Type 0} (P : X → Type 0) (groups : List (List X)) (x : X) → AllByRecursion (AllByRecursion P) groups → P x → AllByRecursion (AllByRecursion P) (onto_last groups x)
 each_onto_last P [] x hs h = ((h, tt), tt)
-each_onto_last P (group ∷ []) x hs h = (each_append P group (x ∷ []) hs.0 (h, tt), tt)
+each_onto_last P (group ∷ []) x hs h = (each_append P group _ hs.0 (h, tt), tt)
 each_onto_last P (group ∷ next ∷ groups) x hs h = (hs.0, each_onto_last P (next ∷ groups) x hs.1 h)
 
 length-onto_last : {X : Type 0} (group : List X) (groups : List (List X)) (x : X) → length (onto_last (group ∷ groups) x) ≡ length (group ∷ groups)
 length-onto_last group [] x = refl
-length-onto_last group (next ∷ groups) x = let rest = length-onto_last next groups x in omega (arith, rest)
+length-onto_last group (next ∷ groups) x = let rest = length-onto_last next groups x in omega arith
 
 few_onto_last : {X : Type 0} (groups : List (List X)) (x : X) → length groups ≤ 8 → length (onto_last groups x) ≤ 8
 few_onto_last [] x few = omega arith
-few_onto_last (group ∷ groups) x few = omega (arith, few, length-onto_last group groups x)
+few_onto_last (group ∷ groups) x few = omega (arith, length-onto_last group groups x)
 
 spawns-onto_last : (groups : List (List ScriptCmd)) (c : ScriptCmd) → sum_by spawn_count (onto_last groups c) ≡ sum_by spawn_count groups + spawns_in c
-spawns-onto_last [] c =
-    let a = sum_by-cons spawn_count (c ∷ []) [] in
-    let b = sum_by-cons spawns_in c [] in
-    omega (arith, a, b)
+spawns-onto_last [] c = omega (arith, sum_by-cons spawn_count (c ∷ []) [], sum_by-cons spawns_in c [])
 spawns-onto_last (group ∷ []) c =
     let a = sum_by-cons spawn_count (group ++ c ∷ []) [] in
-    let b = sum_by-cons spawn_count group [] in
-    let d = sum_by-append spawns_in group (c ∷ []) in
-    let e = sum_by-cons spawns_in c [] in
-    omega (arith, a, b, d, e)
+    omega (arith, sum_by-cons spawn_count group [], sum_by-append spawns_in group (c ∷ []), sum_by-cons spawns_in c [])
 spawns-onto_last (group ∷ next ∷ groups) c =
     let a = sum_by-cons spawn_count group (onto_last (next ∷ groups) c) in
-    let b = sum_by-cons spawn_count group (next ∷ groups) in
-    let rest = spawns-onto_last (next ∷ groups) c in
-    omega (arith, a, b, rest)
+    omega (arith, sum_by-cons spawn_count group (next ∷ groups), spawns-onto_last (next ∷ groups) c)
 
 apart_push : (r s : ModRef) (refs : List ModRef) → AllByRecursion (λ t. is_same_mod_ref t r ≡ false) refs → is_same_mod_ref s r ≡ false → AllByRecursion (λ t. is_same_mod_ref t r ≡ false) (refs ++ s ∷ [])
 apart_push r s refs h k = each_snoc (λ t. is_same_mod_ref t r ≡ false) refs s h k
@@ -139,7 +131,7 @@ apart_push r s refs h k = each_snoc (λ t. is_same_mod_ref t r ≡ false) refs s
 apart_more : (refs : List ModRef) (s : ModRef) → AreApart refs → is_among refs s ≡ false → AreApart (refs ++ s ∷ [])
 apart_more [] s h none = (tt, tt)
 apart_more (r ∷ refs) s h none =
-    let p = or_parts (is_same_mod_ref s r) (list_any (is_same_mod_ref s) refs) none in
+    let p = or_parts _ _ none in
     (apart_push r s refs h.0 p.0, apart_more refs s h.1 p.1)
 
 -- ---- the canonical lines of what is known, with a line more
@@ -150,17 +142,15 @@ same_by xs ys zs e p = subst (Alike xs) e p
 front_code : (names : Texts) (ms : List Module) (lines : List LineForm) (line : LineForm) (loaders : List (List ScriptCmd)) → loaders ≡ [] → front_of names ms lines loaders ++ code line ∷ [] ≡ front_of names ms (lines ++ line ∷ []) loaders
 front_code names ms lines line [] none =
     let cs = flat_map (module_lines names) ms in
-    ap (λ (ls : List ScriptLine). ls ++ code line ∷ []) (append-nil (code_form (cs ++ lines)))
-    ∙ sym (map-append (λ l. code l) (cs ++ lines) (line ∷ []))
-    ∙ ap (λ (ls : List LineForm). code_form ls) (append_assoc cs lines (line ∷ []))
-    ∙ sym (append-nil (code_form (cs ++ (lines ++ line ∷ []))))
+    ap (λ (ls : List ScriptLine). ls ++ code line ∷ []) (append-nil _) ∙ sym (map-append (λ l. code l) (cs ++ lines) (line ∷ []))
+    ∙ ap (λ (ls : List LineForm). code_form ls) (append_assoc cs lines _) ∙ sym (append-nil _)
 front_code names ms lines line (c ∷ loaders) none = absurd cc
 
 quiet_loader : Alike (loader ∷ []) []
 quiet_loader = record { atoms = refl; homes = λ home. refl; functions = λ home. refl }
 
 onto_alike : (names : Texts) (groups : List (List ScriptCmd)) (c : ScriptCmd) → Alike (flat_map (block_form names) groups ++ command_line names c ∷ []) (flat_map (block_form names) (onto_last groups c))
-onto_alike names [] c = lines_append [] (loader ∷ []) (command_line names c ∷ []) (command_line names c ∷ []) (lines_back (loader ∷ []) [] quiet_loader) (lines_same (command_line names c ∷ []))
+onto_alike names [] c = lines_append [] (loader ∷ []) (command_line names c ∷ []) (command_line names c ∷ []) (lines_back _ [] quiet_loader) (lines_same _)
 onto_alike names (group ∷ []) c =
     same_by _ _ _
     (ap (λ (ls : List ScriptLine). ls ++ command_line names c ∷ []) (append-nil (block_form names group))
@@ -175,24 +165,21 @@ onto_alike names (group ∷ next ∷ groups) c =
 
 module _ (names : Texts) (done : List ScriptLine) (ms : List Module) (lines : List LineForm) where
   code_more : (line : LineForm) (loaders : List (List ScriptCmd)) → loaders ≡ [] → Alike done (front_of names ms lines loaders) → Alike (done ++ code line ∷ []) (front_of names ms (lines ++ line ∷ []) loaders)
-  code_more line loaders none like =
-      same_by (done ++ code line ∷ []) _ _ (front_code names ms lines line loaders none) (lines_append done (front_of names ms lines loaders) (code line ∷ []) (code line ∷ []) like (lines_same (code line ∷ [])))
+  code_more line loaders none like = same_by _ _ _ (front_code names ms lines line _ none) (lines_append done _ _ _ like (lines_same _))
 
   loader_more : (loaders : List (List ScriptCmd)) → Alike done (front_of names ms lines loaders) → Alike (done ++ loader ∷ []) (front_of names ms lines (loaders ++ [] ∷ []))
   loader_more loaders like =
       let cs = code_form (flat_map (module_lines names) ms ++ lines) in
       let bs = flat_map (block_form names) loaders in
-      same_by (done ++ loader ∷ []) ((cs ++ bs) ++ loader ∷ []) (front_of names ms lines (loaders ++ [] ∷ []))
-      (append_assoc cs bs (loader ∷ []) ∙ ap (λ (ls : List ScriptLine). cs ++ ls) (sym (flat_map-append (block_form names) loaders ([] ∷ []))))
-      (lines_append done (cs ++ bs) (loader ∷ []) (loader ∷ []) like (lines_same (loader ∷ [])))
+      same_by _ _ _ (append_assoc cs bs _ ∙ ap (λ (ls : List ScriptLine). cs ++ ls) (sym (flat_map-append (block_form names) loaders ([] ∷ []))))
+      (lines_append done _ _ _ like (lines_same _))
 
   command_more : (loaders : List (List ScriptCmd)) (line : ScriptLine) (c : ScriptCmd) → command_line names c ≡ line → Alike done (front_of names ms lines loaders) → Alike (done ++ line ∷ []) (front_of names ms lines (onto_last loaders c))
   command_more loaders line c is like =
       let cs = code_form (flat_map (module_lines names) ms ++ lines) in
       let bs = flat_map (block_form names) loaders in
-      let more = lines_append done (cs ++ bs) (line ∷ []) (line ∷ []) like (lines_same (line ∷ [])) in
-      let onto = lines_append cs cs (bs ++ command_line names c ∷ []) (flat_map (block_form names) (onto_last loaders c)) (lines_same cs) (onto_alike names loaders c) in
-      lines_then (done ++ line ∷ []) (cs ++ (bs ++ line ∷ [])) (front_of names ms lines (onto_last loaders c)) (same_by (done ++ line ∷ []) _ _ (append_assoc cs bs (line ∷ [])) more)
+      let onto = lines_append cs cs _ _ (lines_same cs) (onto_alike names loaders c) in
+      lines_then _ _ _ (same_by _ _ _ (append_assoc cs bs _) (lines_append done _ _ _ like (lines_same _)))
       (subst (λ (l : ScriptLine). Alike (cs ++ (bs ++ l ∷ [])) (front_of names ms lines (onto_last loaders c))) is onto)
 
 -- a text that is closed
@@ -201,10 +188,9 @@ text_more names done ms text m loaders like told =
     let cs = flat_map (module_lines names) ms in
     let bs = flat_map (block_form names) loaders in
     let own = module_lines names m in
-    let all : flat_map (module_lines names) (ms ++ m ∷ []) ++ [] ≡ cs ++ own = append-nil _ ∙ flat_map-append (module_lines names) ms (m ∷ []) ∙ ap (λ (ls : List LineForm). cs ++ ls) (append-nil own) in
+    let all : flat_map (module_lines names) (ms ++ m ∷ []) ++ [] ≡ cs ++ own = append-nil _ ∙ flat_map-append (module_lines names) ms _ ∙ ap (λ (ls : List LineForm). cs ++ ls) (append-nil own) in
     let back = alike_append cs cs text own (alike_same cs) (alike_back own text like) in
-    lines_then done (code_form (cs ++ text) ++ bs) (front_of names (ms ++ m ∷ []) [] loaders) told
-    (lines_append (code_form (cs ++ text)) (code_form (flat_map (module_lines names) (ms ++ m ∷ []) ++ [])) bs bs (subst (AreAlike (cs ++ text)) (sym all) back) (lines_same bs))
+    lines_then done _ _ told (lines_append _ _ bs bs (subst (AreAlike (cs ++ text)) (sym all) back) (lines_same bs))
 
 -- ---- functions
 
@@ -227,9 +213,7 @@ front_stands done s p front h = absurd front
 
 opened_ref : (names after : Texts) (lines : List LineForm) (r : RefForm) → lines ≡ [] → Extends (names_after after (title r.name r.version)) names → open_ref names (lines ++ title r.name r.version ∷ []) ≡ ref_in (names_after after (title r.name r.version)) r ∷ []
 opened_ref names after [] r none e =
-    let held = held_all after (r.name ∷ []) in
-    let same = number_in-after (names_after after (title r.name r.version)) names r.name e held.0 in
-    λ i. record { name = record { 0 = same i }; version = number_value r.version } ∷ []
+    λ i. record { name = record { 0 = (number_in-after _ names _ e (held_all after (r.name ∷ [])).0) i }; version = number_value r.version } ∷ []
 opened_ref names after (line ∷ lines) r none e = absurd cc
 
 open_is : (names : Texts) (text : List LineForm) → IsTitled text → open_ref names text ≡ ref_of (module_of names text) ∷ []
@@ -241,7 +225,7 @@ still_open names (title name version ∷ lines) line t = refl
 still_open names lines line t = absurd t
 
 opened : (done : List ScriptLine) (names : Texts) (lines : List LineForm) (r : RefForm) → lines ≡ [] → length names ≤ 4096 → IsNext names lines (line_written (title r.name r.version)) (title r.name r.version) → IsOpen (done ++ code (title r.name r.version) ∷ []) (names_after names (title r.name r.version)) (lines ++ title r.name r.version ∷ [])
-opened done names [] r none room next = record { before = names; room = room; follow = (next, tt); names_are = refl; titled = tt; home = home_of-append [] done (code (title r.name r.version) ∷ []) }
+opened done names [] r none room next = record { before = names; room = room; follow = (next, tt); names_are = refl; titled = tt; home = home_of-append [] done _ }
 opened done names (line ∷ lines) r none room next = absurd cc
 
 opened_more : (done : List ScriptLine) (s : Known) (line : LineForm) → IsOpen done s.names s.lines → is_line_form line ≡ true → IsJudged s line → IsOpen (done ++ code line ∷ []) (names_after s.names line) (s.lines ++ line ∷ [])
@@ -260,7 +244,7 @@ or_else_some (Some y) x e = cc
 
 given_by : (t : Bool) (o : Option ℕ) (number : ℕ) → cond t o (or_else o (Some number)) ≡ None → t ≡ true
 given_by true o number e = refl
-given_by false o number e = absurd (or_else_some o number e)
+given_by false o number e = absurd (or_else_some o _ e)
 
 module _ (names : Texts) (table : IsNames names) where
   told_title : (done : List ScriptLine) (s : Known) (number : ℕ) (r : RefForm) → IsTold names done s → s.place ≡ Between → length s.names ≤ 4096 → is_line_form (title r.name r.version) ≡ true → IsJudged s (title r.name r.version) → is_among s.titles (ref_in (names_after s.names (title r.name r.version)) r) ≡ false → Extends (names_after s.names (title r.name r.version)) names → IsTold names (done ++ code (title r.name r.version) ∷ []) (with_title s number r)
@@ -426,17 +410,17 @@ module _ (names : Texts) (table : IsNames names) where
 
 quiet_text : (w : Known) (t : Bool) (o : Option ℕ) → (cond t (closed_by w o) w).unknown ≡ None → w.unknown ≡ None
 quiet_text w true None none = none
-quiet_text w true (Some n) none = absurd (or_else_some w.unknown (w.title + n) none)
+quiet_text w true (Some n) none = absurd (or_else_some _ _ none)
 quiet_text w false o none = none
 
 quiet_command : (t : Bool) (o : Option ℕ) (number : ℕ) → cond t o (or_else o (Some number)) ≡ None → o ≡ None
 quiet_command true o number none = none
-quiet_command false o number none = absurd (or_else_some o number none)
+quiet_command false o number none = absurd (or_else_some o _ none)
 
 -- where nothing is lacking, nothing was
 quiet_by : (s : Known) (number : ℕ) {line : ScriptLine} {next : Known} → Move s number line next → next.unknown ≡ None → s.unknown ≡ None
-quiet_by s number (writes line functions place is few) none = let w = with_line s line functions in quiet_text w (is_text_end (last_line w.lines)) (unsettled_line w.lines) none
-quiet_by s number (commands line functions processes place is passed few some) none = quiet_command (loads_given s.titles (names_with_all s.names (script_line_atoms line)) line) s.unknown number none
+quiet_by s number (writes line functions place is few) none = let w = with_line s line functions in quiet_text w _ _ none
+quiet_by s number (commands line functions processes place is passed few some) none = quiet_command _ _ _ none
 quiet_by s number m none = none
 
 -- what lines were before all of those that are known
@@ -445,7 +429,7 @@ record IsEarlier (s known : Known) : Type 0 where
   quiet : known.unknown ≡ None → s.unknown ≡ None
 
 earlier : (s : Known) (number : ℕ) (lines : List ScriptLine) (known : Known) → steps s number lines ≡ Ok known → IsEarlier s known
-earlier s number [] known e = subst (IsEarlier s) (ok_is s known e) (record { grown = Extends-refl s.names; quiet = λ none. none })
+earlier s number [] known e = subst (IsEarlier s) (ok_is s known e) (record { grown = Extends-refl _; quiet = λ none. none })
 earlier s number (line ∷ lines) known e =
     let first = bind_ok (step s number line) (λ next. steps next (number + 1) lines) known e in
     let m = moves s number line first.0 first.1 in
