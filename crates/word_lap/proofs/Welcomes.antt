@@ -125,11 +125,12 @@ pub record TakenSteps (functions : List Mfa) (table : TableId) (opening : Openin
   pub between : IsBetweenTurns (view_of new)
   pub all : length now ≡ PROCESSES
   pub inbox : after.number ≡ before.number
+  pub told : after.told ≡ before.told
   pub kept : KeepsProcesses functions opening (view_of old) before.taken was → KeepsProcesses functions opening (view_of new) after.taken now
 
 module _ (functions : List Mfa) (table : TableId) (opening : Opening) (old : tokens.Member) (before : Taking SpawnedProcess) (was : List (Option ProcessRun)) where
   pub taken_begins : IsToken table old → IsBetweenTurns (view_of old) → length was ≡ PROCESSES → TakenSteps functions table opening old old before before was was
-  taken_begins token between all = record { token = token; number = refl; between = between; all = all; inbox = refl; kept = λ h. h }
+  taken_begins token between all = record { token = token; number = refl; between = between; all = all; inbox = refl; told = refl; kept = λ h. h }
 
   pub taken_goes_on : (mid new : tokens.Member) (at after : Taking SpawnedProcess) (now later : List (Option ProcessRun)) (spawn : SpawnedProcess) → TakenSteps functions table opening old mid before at was now → after ≡ took at spawn → IsToken table new
       → new.number ≡ mid.number → IsBetweenTurns (view_of new) → length later ≡ PROCESSES
@@ -141,5 +142,6 @@ module _ (functions : List Mfa) (table : TableId) (opening : Opening) (old : tok
     between = between;
     all = all;
     inbox = ap (λ (t : Taking SpawnedProcess). t.number) is ∙ h.inbox;
+    told = ap (λ (t : Taking SpawnedProcess). t.told) is ∙ h.told;
     kept = λ first. subst (λ (t : Taking SpawnedProcess). KeepsProcesses functions opening (view_of new) t.taken later) (sym is) (kept at.taken (h.kept first));
   }

@@ -124,6 +124,8 @@ pub fn take_in<K: Naming, T: TableName, I: InboxNames, R: Wait>(
     // what the scheduler keeps of its processes it keeps of all that it took, and it took all that it was told of
     ensures kept { KeepsWhatCame K.names shared.now.table.shared.key (view_of member.old) (view_of member.new) taker.old.taken taker.new.taken processes.old processes.new }
     ensures empty { IsPrefix taker.new.told taker.new.taken }
+    // it was told of nothing meanwhile
+    ensures told { taker.new.told ≡ taker.old.told }
 {
     let number = inbox.number();
     for _ in rt.forever() {

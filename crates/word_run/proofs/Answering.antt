@@ -73,5 +73,6 @@ module _ {T : Type 0} {I : Type 0} (began : Option DeskState) (count loaders : �
   pub answers_on : HasAnswers began count loaders s → StaysAnswered s t → HasAnswers began count loaders t
   answers_on h on = record {
     over = subst (λ (n : ℕ). TellsOfLoaders began n count loaders t.over) (sym on.number) (subst (λ (b : Bool). TellsOfLoaders began s.number count loaders b) (sym on.over) h.over);
-    emptied = λ is. subst (λ (x : Taking SpawnedProcess). IsPrefix x.told x.taken) (sym on.taker) (h.emptied (sym on.emptied ∙ is));
+    emptied = on.emptied ∙ h.emptied;
+    taken = subst (λ (x : Taking SpawnedProcess). IsPrefix x.told x.taken) (sym on.taker) h.taken;
   }

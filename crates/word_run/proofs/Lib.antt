@@ -12,6 +12,7 @@ pub mod RoundSeats
 pub mod Rounding
 pub mod Crossing
 pub mod RoundLoop
+pub mod Hearing
 pub mod Joined
 pub mod Watching
 pub mod Stations

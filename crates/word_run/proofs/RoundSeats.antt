@@ -10,7 +10,7 @@ use Rattle.word_run.specs.Places.{EachBecame}
 use Rattle.word_run.specs.declared.scheduler.Slice.{Slice}
 use Rattle.word_run.specs.declared.scheduler.Slice.TheVariants.{Idle}
 use Rattle.word_run.specs.declared.seat.Seat.{Seat}
-use Rattle.word_run.specs.Rounds.{AreAllIdle, AreIdle, AreKept, CanGo, HadSlice, IsIdle}
+use Rattle.word_run.specs.Rounds.{AreAllIdle, AreIdle, AreKept, CanGo, HadSlice, HasTakenTold, IsIdle}
 use Rattle.word_run.specs.Schedulers.{Keeps}
 
 -- ---- answers
@@ -32,11 +32,14 @@ all_places P xs each = λ k d below. each k (get_or xs k d) (slice_get-get_or xs
 
 module _ {T I : Type 0} (functions : List Mfa) (table : TableId) (opening : Opening) where
   -- a slice as its answer tells of it
-  pub had_slice : (before after : Seat T I) → after.scheduler.number ≡ before.scheduler.number → OnOk after.answer (Keeps functions table opening after.scheduler)
+  pub had_slice : (before after : Seat T I) → after.scheduler.number ≡ before.scheduler.number → after.scheduler.taker.told ≡ before.scheduler.taker.told
+      → OnOk after.answer (Keeps functions table opening after.scheduler) → OnOk after.answer (HasTakenTold after.scheduler)
       → IfOk after.answer (λ slice. (slice ≡ Idle) ↔ IsIdle after.scheduler) → HadSlice functions table opening before after
-  had_slice before after number kept idle = record {
+  had_slice before after number told kept taken idle = record {
     number = number;
+    told = told;
     kept = on_if (Keeps functions table opening after.scheduler) after.answer kept;
+    taken = on_if (HasTakenTold after.scheduler) after.answer taken;
     idle = idle;
   }
 

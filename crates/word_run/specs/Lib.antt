@@ -3,6 +3,7 @@ pub mod Desks
 pub mod Loaders
 pub mod Schedulers
 pub mod Rounds
+pub mod Told
 pub mod Beginning
 pub mod Finished
 pub mod Places

@@ -32,10 +32,16 @@ pub record IsDone (d : DeskState) : Type 0 where
   pub retired : d.book.plain.server.retired ≡ []
 
 module _ {T : Type 0} {I : Type 0} where
-  -- a scheduler keeps what it was answered in its last lap: of its loaders, and of its inbox, of which it has then taken all that it was told of
+  -- of all that a scheduler was told that it was posted to it, it has taken each
+  abbrev pub HasTakenTold : Scheduler T I → Type 0
+  HasTakenTold s = IsPrefix s.taker.told s.taker.taken
+
+  -- a scheduler keeps what it was answered in its last lap: of its loaders, and of its inbox, which answered that it is empty, so that all that the
+  -- scheduler was told of is taken
   pub record HasAnswers (began : Option DeskState) (count loaders : ℕ) (s : Scheduler T I) : Type 0 where
     pub over : TellsOfLoaders began s.number count loaders s.over
-    pub emptied : s.emptied ≡ true → IsPrefix s.taker.told s.taker.taken
+    pub emptied : s.emptied ≡ true
+    pub taken : HasTakenTold s
 
   -- a call leaves these answers, and the inbox
   pub record StaysAnswered (old new : Scheduler T I) : Type 0 where
@@ -55,10 +61,13 @@ module _ {T : Type 0} {I : Type 0} where
     pub below : seat.scheduler.number < count
     pub kept : Keeps functions table opening seat.scheduler
 
-  -- a scheduler had a slice: it keeps what it knows of its processes, and the answer tells whether it is idle
+  -- a scheduler had a slice: it was told of nothing meanwhile, it keeps what it knows of its processes, it has taken all that it was told of before, and the
+  -- answer tells whether it is idle
   pub record HadSlice (functions : List Mfa) (table : TableId) (opening : Opening) (before after : Seat T I) : Type 0 where
     pub number : after.scheduler.number ≡ before.scheduler.number
+    pub told : after.scheduler.taker.told ≡ before.scheduler.taker.told
     pub kept : IfOk after.answer (λ _. Keeps functions table opening after.scheduler)
+    pub taken : IfOk after.answer (λ _. HasTakenTold after.scheduler)
     pub idle : IfOk after.answer (λ slice. (slice ≡ Idle) ↔ IsIdle after.scheduler)
 
   -- each scheduler has the end that takes of the inbox of its number

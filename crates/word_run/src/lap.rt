@@ -1,12 +1,11 @@
 //! A lap of a scheduler.
 
 ghost use Rattle.std.specs.Prelude.{◌≡◌, ◌<◌, true, false, length, OnOk, Some};
-ghost use mathlib.Core.List.{IsPrefix};
 ghost use Rattle.word_permit.specs.Runs.{IsOverWords};
 ghost use Rattle.word_run.specs.Desks.{HasHomes};
 ghost use Rattle.word_run.specs.Loaders.{AreInboxes};
 ghost use Rattle.word_run.specs.Names.{HasTable};
-ghost use Rattle.word_run.specs.Rounds.{HasAnswers, StaysAnswered};
+ghost use Rattle.word_run.specs.Rounds.{HasAnswers, HasTakenTold, StaysAnswered};
 ghost use Rattle.word_run.specs.Schedulers.{Keeps};
 
 use crate::loaders::step_loaders;
@@ -47,6 +46,7 @@ impl<T: TableName, I: InboxNames> Scheduler<T, I> {
         requires awake { self.old.waits ≡ false }
         ensures number { self.new.number ≡ self.old.number }
         ensures kept { OnOk result (Keeps K.names shared.now.table.shared.table_id shared.now.table.shared.key self.new) }
+        ensures told { self.new.taker.told ≡ self.old.taker.told }
         ensures answers { OnOk result (HasAnswers E.began (length inboxes.now) sight.now.loaders self.new) }
         ensures awake { OnOk result (self.new.waits ≡ false) }
     {
@@ -82,7 +82,10 @@ impl<T: TableName, I: InboxNames> Scheduler<T, I> {
         ensures number { self.new.number ≡ self.old.number }
         ensures kept { Keeps K.names shared.now.table.shared.table_id shared.now.table.shared.key self.new }
         ensures awake { self.new.waits ≡ false }
-        ensures emptied { self.new.emptied ≡ true → IsPrefix self.new.taker.told self.new.taker.taken }
+        // The inbox answered that it is empty: all that the scheduler was told of is taken, and it was told of nothing meanwhile.
+        ensures emptied { self.new.emptied ≡ true }
+        ensures taken { HasTakenTold self.new }
+        ensures told { self.new.taker.told ≡ self.old.taker.told }
     {
         let Some(mut member) = self.member.take() else {
             unreachable!()
@@ -114,6 +117,7 @@ impl<T: TableName, I: InboxNames> Scheduler<T, I> {
         requires kept { Keeps K.names shared.now.table.shared.table_id shared.now.table.shared.key self.old }
         requires awake { self.old.waits ≡ false }
         ensures number { self.new.number ≡ self.old.number }
+        ensures told { self.new.taker.told ≡ self.old.taker.told }
         ensures answers { OnOk result (StaysAnswered self.old self.new) }
         ensures kept { OnOk result (Keeps K.names shared.now.table.shared.table_id shared.now.table.shared.key self.new) }
         ensures awake { OnOk result (self.new.waits ≡ false) }

@@ -22,6 +22,7 @@ mod seat;
 mod sight;
 mod slice_step;
 mod slicing;
+mod telling;
 
 pub use beginning::MOST_SCHEDULERS;
 pub use ran::Ran;

@@ -9,7 +9,9 @@ ghost use Rattle.word_run.specs.Names.{HasTable};
 ghost use Rattle.word_run.specs.declared.onlooker.Onlooker.{Onlooker};
 ghost use Rattle.word_run.specs.declared.seat.Seat.{Seat};
 ghost use Rattle.word_run.specs.Onlookers.{AreOnlookers};
+ghost use Rattle.word_run.specs.Places.{EachBecame};
 ghost use Rattle.word_run.specs.Rounds.{AreAllIdle, AreIdle, IsDone, IsRun};
+ghost use Rattle.word_run.specs.Told.{HaveTakenPosted, HaveTakenTold, HearsNothing, KnowPosted};
 
 use crate::desk::Desk;
 use crate::finishing::finish;
@@ -66,7 +68,8 @@ where
     unreachable!()
 }
 
-/// A round. Answers whether it ends the run: all commands were done as it began, and it left no process.
+/// A round. Each scheduler is first told of all that was posted to it so far. Answers whether it ends the run: all commands were done as it began, and it
+/// left no process.
 fn turn_round<K, N, T, I, R, G>(
     rt: &R,
     alloc: Global,
@@ -89,6 +92,41 @@ where
     ensures shared { result.0.shared ≡ run.shared }
     ensures onlookers { OnOk result.1 (AreOnlookers K.names functions.now run.shared.table.shared.table_id run.desk.book.plain.script.observers result.0.onlookers.items) }
     ensures over { IfOk result.1 (λ over. over ≡ true → IsDone result.0.desk × AreAllIdle result.0.seats.items) }
+    // Each scheduler was told of just what was posted to it before the round, and has taken all of it.
+    ensures told { KnowPosted run.desk.posted result.0.seats.items }
+    ensures taken { OnOk result.1 (HaveTakenPosted run.desk.posted result.0.seats.items) }
+{
+    let mut run = run;
+    run.desk.tell(rt, &run.inboxes, &mut run.seats);
+    slice_round(rt, alloc, gate, functions, run)
+}
+
+/// The same, once each scheduler was told.
+fn slice_round<K, N, T, I, R, G>(
+    rt: &R,
+    alloc: Global,
+    gate: &G,
+    functions: &MfaList,
+    run: Run<K, N, T, I>,
+) -> (Run<K, N, T, I>, Result<bool, NoMemory>)
+where
+    K: Naming + Send + Sync,
+    N: RunName + Send + Sync,
+    T: TableName + Send + Sync,
+    I: InboxNames + Send + Sync,
+    R: Threads + Wait + Sync,
+    G: Gate,
+    requires words { IsOverWords run.shared.table.shared.table_id run.shared.table.shared.key N.run }
+    requires table { HasTable N.run T.table }
+    requires run { IsRun K.names run.desk.book.plain.script run.shared.table.shared.table_id run.shared.table.shared.key run.desk run.inboxes.items run.seats.items run.sight }
+    requires onlookers { AreOnlookers K.names functions.now run.shared.table.shared.table_id run.desk.book.plain.script.observers run.onlookers.items }
+    ensures run { OnOk result.1 (IsRun K.names run.desk.book.plain.script run.shared.table.shared.table_id run.shared.table.shared.key result.0.desk result.0.inboxes.items result.0.seats.items result.0.sight) }
+    ensures shared { result.0.shared ≡ run.shared }
+    ensures onlookers { OnOk result.1 (AreOnlookers K.names functions.now run.shared.table.shared.table_id run.desk.book.plain.script.observers result.0.onlookers.items) }
+    ensures over { IfOk result.1 (λ over. over ≡ true → IsDone result.0.desk × AreAllIdle result.0.seats.items) }
+    // Each scheduler was told of nothing meanwhile, and has taken all that it was told of before.
+    ensures told { EachBecame HearsNothing run.seats.items result.0.seats.items }
+    ensures taken { OnOk result.1 (HaveTakenTold result.0.seats.items) }
 {
     let made = run.desk.is_over();
     let after = whole_round(rt, alloc, gate, functions, run);

@@ -130,6 +130,8 @@ impl<T: TableName, I: InboxNames> Scheduler<T, I> {
         requires kept { Keeps K.names shared.now.table.shared.table_id shared.now.table.shared.key self.old }
         ensures number { self.new.number ≡ self.old.number }
         ensures kept { OnOk result (Keeps K.names shared.now.table.shared.table_id shared.now.table.shared.key self.new) }
+        // It was told of nothing meanwhile.
+        ensures told { self.new.taker.told ≡ self.old.taker.told }
         // What it was answered in its last lap, and that it is idle exactly where all three answers say so.
         ensures answers { OnOk result (HasAnswers E.began (length inboxes.now) sight.now.loaders self.new) }
         ensures idle { IfOk result (λ slice. (slice ≡ Slice.Idle) ↔ IsIdle self.new) }
@@ -169,6 +171,7 @@ impl<T: TableName, I: InboxNames> Scheduler<T, I> {
         requires exports { sight.now.exports ≡ K.names }
         requires kept { Keeps K.names shared.now.table.shared.table_id shared.now.table.shared.key self.old }
         ensures number { self.new.number ≡ self.old.number }
+        ensures told { self.new.taker.told ≡ self.old.taker.told }
         ensures kept { OnOk result (Keeps K.names shared.now.table.shared.table_id shared.now.table.shared.key self.new) }
         ensures answers { OnOk result (HasAnswers E.began (length inboxes.now) sight.now.loaders self.new) }
         ensures awake { OnOk result (self.new.waits ≡ false) }
@@ -184,6 +187,7 @@ impl<T: TableName, I: InboxNames> Scheduler<T, I> {
     fn wake_up<K: Naming>(&mut self, shared: &Shared<CodeLaw<K>>)
         requires kept { Keeps K.names shared.now.table.shared.table_id shared.now.table.shared.key self.old }
         ensures number { self.new.number ≡ self.old.number }
+        ensures told { self.new.taker.told ≡ self.old.taker.told }
         ensures kept { Keeps K.names shared.now.table.shared.table_id shared.now.table.shared.key self.new }
         ensures awake { self.new.waits ≡ false }
     {

@@ -1,4 +1,4 @@
-use Rattle.std.proofs.Common.{subst, sym}
+use Rattle.std.proofs.Common.{◌∙◌, ap, subst, sym}
 use Rattle.anchors.specs.Holds.{view_of}
 use Rattle.word_lap.specs.Schedulers.{KeepsProcesses}
 use Rattle.word_lap.proofs.Welcomes.{taken_begins, taken_goes_on}
@@ -18,3 +18,7 @@ loop-preserved g c =
 pub returns-in_default-clause-kept : goal.returns-in_default-clause-kept
 returns-in_default-clause-kept g c = λ kept.
     subst (λ t. KeepsProcesses g.K.Naming.names c.args.shared.now.table.shared.key (view_of c.loop.member) t.taken c.loop.processes) (sym c.in_default.ensures.taken) (c.loop.invariant.kept kept)
+
+-- and it was told of nothing meanwhile
+pub returns-in_default-clause-told : goal.returns-in_default-clause-told
+returns-in_default-clause-told g c = ap (λ t. t.told) c.in_default.ensures.taken ∙ c.loop.invariant.told

@@ -1,29 +1,61 @@
-use Rattle.std.proofs.Common.{ℕ, ap}
-use Rattle.std.proofs.lemmas.Result.{IfOk-weaker, on_ok_weaker}
-use Rattle.std.specs.Prelude.{Vec}
-use Rattle.std.specs.declared.alloc.Global.{Global}
-use Rattle.word_run.proofs.Rounding.{idle_round, round_run}
-use Rattle.word_run.proofs.Watching.{onlookers_kept}
+use Rattle.std.proofs.Common.{OnOk, length, sym, ap, subst, ◌∙◌}
+use Rattle.std.proofs.lemmas.List.{with_items_is}
+use Rattle.std.proofs.lemmas.Result.{on_ok_weaker}
+use Rattle.std.specs.Vec.{with_items}
+use Rattle.word_run.specs.Desks.{DeskState}
+use Rattle.word_run.specs.Loaders.{AreInboxes}
+use Rattle.word_run.specs.Onlookers.{AreOnlookers}
+use Rattle.word_run.specs.Rounds.{HaveTakers, IsRun}
+use Rattle.word_run.proofs.Hearing.{heard_lent, know_posted, taken_posted, told_run}
 use Rattle.word_run.proofs.rounds.turn_round.Goals as goal
 
+-- each inbox has its two ends; the inboxes and the schedulers are lent as slices
+pub tell-requires-clause-inboxes : goal.tell-requires-clause-inboxes
+tell-requires-clause-inboxes g c = subst AreInboxes (sym c.deref.ensures.value) c.requires.run.inboxes_are
+
+pub tell-requires-clause-takers : goal.tell-requires-clause-takers
+tell-requires-clause-takers g c = subst (λ seats. HaveTakers seats) (sym c.deref_mut.ensures.value) (λ k seat at. let kept = c.requires.run.kept k seat at in kept.1.inbox ∙ kept.0)
+
+pub tell-requires-clause-many : goal.tell-requires-clause-many
+tell-requires-clause-many g c = ap length c.deref.ensures.value ∙ c.requires.run.many ∙ sym (ap length c.deref_mut.ensures.value)
+
+pub tell-requires-clause-homes : goal.tell-requires-clause-homes
+tell-requires-clause-homes g c = c.requires.run.homes ∙ sym (ap length c.deref_mut.ensures.value)
+
+-- the run is as it should be still
+pub slice_round-requires-clause-run : goal.slice_round-requires-clause-run
+slice_round-requires-clause-run g c = λ κs within.
+    let heard = heard_lent c.args.run.desk.posted c.args.run.seats.items c.deref_mut.result.now c.tell.new.seats (with_items c.args.run.seats c.tell.new.seats).items c.deref_mut.ensures.value
+    (with_items_is c.args.run.seats c.tell.new.seats (c.tell.auto.seats ∙ c.deref_mut.ensures.len)) c.tell.ensures.seats in
+    told_run g.K.Naming.names _ _ c.args.run.desk c.tell.new.self c.args.run.inboxes.items c.args.run.seats.items (with_items c.args.run.seats c.tell.new.seats).items c.args.run.sight c.tell.ensures.desk c.requires.run heard
+
+pub slice_round-requires-clause-onlookers : goal.slice_round-requires-clause-onlookers
+slice_round-requires-clause-onlookers g c = λ κs within.
+    subst (λ (d : DeskState). AreOnlookers g.K.Naming.names c.args.functions.now c.args.run.shared.table.shared.table_id d.book.plain.script.observers c.args.run.onlookers.items) (sym c.tell.ensures.desk) c.requires.onlookers
+
+-- the desk was the same
 pub returns-clause-run : goal.returns-clause-run
 returns-clause-run g c =
-    on_ok_weaker c.was_last-over.result
-    (λ ok. round_run g.K.Naming.names _ _ c.args.run.desk c.whole_round-after.result.desk c.args.run.inboxes.items c.args.run.seats.items c.whole_round-after.result.seats.items c.args.run.sight c.requires.run c.whole_round-after.ensures.adds c.whole_round-after.ensures.seats
-    c.deref.result.now c.deref.ensures.value ok _ (ap (λ (v : Vec ℕ Global). v.items) c.whole_round-after.ensures.inboxes) _ c.whole_round-after.ensures.sight)
-    c.was_last-over.ensures.ok
+    let had = c.slice_round.result in
+    let here = c.args.run.shared.table.shared in
+    subst (λ (d : DeskState). OnOk had.1 (IsRun g.K.Naming.names d.book.plain.script here.table_id here.key had.0.desk had.0.inboxes.items had.0.seats.items had.0.sight)) c.tell.ensures.desk c.slice_round.ensures.run
 
 pub returns-clause-onlookers : goal.returns-clause-onlookers
 returns-clause-onlookers g c =
-    on_ok_weaker c.was_last-over.result
-    (λ ok. onlookers_kept g.K.Naming.names c.args.functions.now c.args.run.shared.table.shared.table_id c.args.run.desk.book.plain.script.observers c.args.run.onlookers.items c.whole_round-after.result.onlookers.items c.deref-2.result.now
-    c.deref-2.ensures.value c.whole_round-after.ensures.onlookers c.requires.onlookers ok)
-    c.was_last-over.ensures.looked
+    let had = c.slice_round.result in
+    subst (λ (d : DeskState). OnOk had.1 (AreOnlookers g.K.Naming.names c.args.functions.now c.args.run.shared.table.shared.table_id d.book.plain.script.observers had.0.onlookers.items)) c.tell.ensures.desk c.slice_round.ensures.onlookers
 
-pub returns-clause-over : goal.returns-clause-over
-returns-clause-over g c =
-    IfOk-weaker c.was_last-over.result _ _
-    (λ over had last.
-    let h = had last in
-    (h.0, idle_round g.K.Naming.names _ _ c.args.run.seats.items c.whole_round-after.result.seats.items c.deref.result.now c.deref.ensures.value c.whole_round-after.ensures.seats h.1))
-    c.was_last-over.ensures.over
+-- what each was told of is what was posted before the round
+pub returns-clause-told : goal.returns-clause-told
+returns-clause-told g c =
+    let heard = heard_lent c.args.run.desk.posted c.args.run.seats.items c.deref_mut.result.now c.tell.new.seats (with_items c.args.run.seats c.tell.new.seats).items c.deref_mut.ensures.value
+    (with_items_is c.args.run.seats c.tell.new.seats (c.tell.auto.seats ∙ c.deref_mut.ensures.len)) c.tell.ensures.seats in
+    know_posted c.args.run.desk.posted c.args.run.seats.items (with_items c.args.run.seats c.tell.new.seats).items c.slice_round.result.0.seats.items heard c.slice_round.ensures.told
+
+-- and all of it was taken
+pub returns-clause-taken : goal.returns-clause-taken
+returns-clause-taken g c =
+    let heard = heard_lent c.args.run.desk.posted c.args.run.seats.items c.deref_mut.result.now c.tell.new.seats (with_items c.args.run.seats c.tell.new.seats).items c.deref_mut.ensures.value
+    (with_items_is c.args.run.seats c.tell.new.seats (c.tell.auto.seats ∙ c.deref_mut.ensures.len)) c.tell.ensures.seats in
+    let told = know_posted c.args.run.desk.posted c.args.run.seats.items (with_items c.args.run.seats c.tell.new.seats).items c.slice_round.result.0.seats.items heard c.slice_round.ensures.told in
+    on_ok_weaker c.slice_round.result.1 (λ taken. taken_posted c.args.run.desk.posted c.slice_round.result.0.seats.items told taken) c.slice_round.ensures.taken

@@ -15,5 +15,5 @@ turns_of_lap-requires-clause-kept g c κs within = keeps_asked g.K.Naming.names 
 pub returns-clause-answers : goal.returns-clause-answers
 returns-clause-answers g c =
     on_ok_weaker c.turns_of_lap.result
-    (answers_on g.E.RoundName.began _ _ _ c.turns_of_lap.new.self (record { over = c.in_ok-self.ensures; emptied = c.arrive.ensures.emptied }))
+    (answers_on g.E.RoundName.began _ _ _ c.turns_of_lap.new.self (record { over = c.in_ok-self.ensures; emptied = c.arrive.ensures.emptied; taken = c.arrive.ensures.taken }))
     c.turns_of_lap.ensures.answers

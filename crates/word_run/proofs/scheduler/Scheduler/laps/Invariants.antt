@@ -7,6 +7,7 @@ use Rattle.word_run.proofs.scheduler.Scheduler.laps.Given as goal
 abbrev pub invariant-loop : goal.invariant-loop
 invariant-loop g l = record {
   number : l.self.number ≡ l.fn.self.number;
+  told : l.self.taker.told ≡ l.fn.self.taker.told;
   kept : Keeps g.K.Naming.names l.shared.table.shared.table_id l.shared.table.shared.key l.self;
   answers : 0 < l.counter → HasAnswers g.E.RoundName.began (length l.inboxes) l.sight.loaders l.self;
   awake : l.self.waits ≡ false;
