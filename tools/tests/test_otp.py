@@ -63,7 +63,6 @@ class Compared(unittest.TestCase):
                     self.assertEqual(judged, ("not lawful", NOT_LAWFUL[name], "lawful"))
                 else:
                     self.assertEqual((done.verdict, done.numbers), ("lawful", []))
-                    self.assertEqual(done.told.report, done.ours)
 
     def test_each_listed_difference_shows(self):
         self.assertEqual(sorted(int(name.split("_")[0]) for name in self.shown), list(range(1, 11)))
@@ -76,13 +75,11 @@ class Compared(unittest.TestCase):
                     self.assertIn("\nend killed 1\n", done.told.report)
                 else:
                     self.assertEqual((done.verdict, done.numbers, done.aside), ("not lawful", [number], "lawful"))
-                    self.assertEqual(done.aside_report, done.ours)
 
     def test_the_node_answers_there_as_it_did(self):
         for name, done in self.shown.items():
             with self.subTest(name):
                 self.assertEqual(done.told.report, (OTP / f"differences/{name}.report").read_text())
-                self.assertEqual(done.told.report == done.ours, name.startswith("07"))
 
     def test_scripts_of_seeds_are_lawful_or_differ_as_listed(self):
         for seed, done in self.made.items():
@@ -105,13 +102,19 @@ class Compared(unittest.TestCase):
         self.assertEqual(list(comparison.differing(done.ours, done.ours)), [])
 
 
+def example(name):
+    return (TOP / f"examples/{name}.script").read_text()
+
+
+# A process that goes on behind the last command, though each of its rounds has sixteen turns.
+LONG_TRACE = example("trace").replace("less $2 9 again", "less $2 30 again")
 # Five faults of the Erlang sources: the file, a text that stands there once, another, and a script that shows it.
 FAULTS = {
     "a reply is inverted": (
         "otp_commands.erl",
         "{has_old_code(Name), none}",
         "{not has_old_code(Name), none}",
-        "check_old",
+        example("check_old"),
     ),
     "a generation is told too early": (
         "otp_rounds.erl",
@@ -119,21 +122,21 @@ FAULTS = {
         "    Generation = otp_history:generation(History),",
         "took_turn(Lines, #life{turns = Turns, spans = Spans} = Life, #run{history = History}) ->\n"
         "    Generation = max(0, otp_history:generation(History) - 1),",
-        "upgrade",
+        example("upgrade"),
     ),
     "a print is lost": ("otp_rounds.erl", "told({print, Term}, _, _) ->\n    [{print, Term}];",
-                        "told({print, _}, _, _) ->\n    [];", "first"),
+                        "told({print, _}, _, _) ->\n    [];", example("first")),
     "a trace is left on": (
         "otp_commands.erl",
         "case erlang:trace_pattern(Pattern, On, [local]) of",
         "case erlang:trace_pattern(Pattern, true, [local]) of",
-        "trace",
+        LONG_TRACE,
     ),
     "a process skips a turn": (
         "otp_rounds.erl",
         "{Lines, End} = otp_process:step(Process),",
         "{Lines, End} = case Life#life.turns of 1 -> {[], again}; _ -> otp_process:step(Process) end,",
-        "soft_purge",
+        example("soft_purge"),
     ),
 }
 
@@ -149,10 +152,17 @@ class Faults(unittest.TestCase):
             text = (sources / file).read_text()
             self.assertEqual(text.count(old), 1, old)
             (sources / file).write_text(text.replace(old, new))
-            path = TOP / f"examples/{script}.script"
+            path = Path(room) / "fault.script"
+            path.write_text(script)
             with nodes.Node(sources) as node:
                 report = node.tell(path).report
-            return comparison.Program(PROGRAM).check(path.read_text(), report)
+            return comparison.Program(PROGRAM).check(script, report)
+
+    def test_without_a_fault_the_reports_are_lawful(self):
+        with nodes.Node() as node, tempfile.TemporaryDirectory() as room:
+            path = Path(room) / "long.script"
+            path.write_text(LONG_TRACE)
+            self.assertEqual(comparison.Program(PROGRAM).check(LONG_TRACE, node.tell(path).report), "lawful")
 
     def test_each_fault_is_seen(self):
         with ThreadPoolExecutor(os.cpu_count()) as pool:
