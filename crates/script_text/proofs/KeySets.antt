@@ -12,12 +12,6 @@ pub any-map : {A B : Type 0} (f : A → Bool) (g : B → Bool) (h : A → B) →
 any-map f g h same [] = refl
 any-map f g h same (x ∷ xs) = ap (λ t. t || list_any f xs) (same x) ∙ ap (λ t. g (h x) || t) (any-map f g h same xs)
 
-abbrev is_ref_key : RefKey → RefKey → Bool
-is_ref_key k x = k.name == x.name && k.version == x.version
-
-abbrev is_function_key : FunctionKey → FunctionKey → Bool
-is_function_key k x = k.«module» == x.«module» && (k.name == x.name && k.arity == x.arity)
-
 -- a key is among keys where what it stands for is among what they stand for
 pub any-ref_keys : (k : RefKey) (ks : List RefKey) → list_any (λ x. k.name == x.name && k.version == x.version) ks ≡ list_any (is_same_mod_ref (ref_of_key k)) (map ref_of_key ks)
 any-ref_keys k ks = any-map _ _ _ (λ x. refl) ks
