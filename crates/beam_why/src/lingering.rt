@@ -98,13 +98,9 @@ fn told_of(
     };
     let mut replay = Replay::new(alloc)?;
     for (place, entry) in log.journal.as_slice().iter().enumerate() {
-        if let Some((module, linger)) = told_by(entry) {
-            if linger.process as usize == process {
-                told.add(&replay, &turns, place, module, linger)?;
-            }
-        }
+        told.take(&replay, &turns, place, entry, process)?;
         if told.other.is_some() {
-            return Ok(told);
+            break;
         }
         replay.step(&log.journal, &script.modules)?;
     }
@@ -112,6 +108,23 @@ fn told_of(
 }
 
 impl Told {
+    /// Takes in what the entry at a place tells of a process. The journal was made again up to it.
+    fn take(
+        &mut self,
+        replay: &Replay,
+        turns: &TurnCount,
+        place: usize,
+        entry: &Entry,
+        process: usize,
+    ) -> Result<(), NoMemory> {
+        match told_by(entry) {
+            Some((module, linger)) if linger.process as usize == process => {
+                self.add(replay, turns, place, module, linger)
+            }
+            _ => Ok(()),
+        }
+    }
+
     /// Adds what the soft purge at a place tells, before which the journal was made again.
     fn add(
         &mut self,
