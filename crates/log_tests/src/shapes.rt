@@ -169,10 +169,16 @@ const IN_TURN: [(u32, Step); 7] = [
     (1, Step::SpawnOfList(1)),
 ];
 
+/// Whether a journal of these steps has the commands of the script in their order.
+fn are_in_order(alloc: Global, steps: &[(u32, Step)]) -> Result<bool, Fail> {
+    let script = read_script(alloc, SCRIPT.as_bytes())?;
+    let log = log_of(alloc, journal(alloc, steps)?, &[2], &[3])?;
+    Ok(has_commands_in_order(&script, &log))
+}
+
 #[test]
 fn commands_are_in_order(rt: HostRuntime) -> Result<(), Fail> {
     let alloc = rt.alloc();
-    let script = read_script(alloc, SCRIPT.as_bytes())?;
     let at_four: [(Step, bool); 4] = [
         (Step::SpawnOf(1), true),
         (Step::SpawnOf(2), false),
@@ -182,8 +188,7 @@ fn commands_are_in_order(rt: HostRuntime) -> Result<(), Fail> {
     for (step, expected) in at_four {
         let mut steps = IN_TURN;
         steps[4] = (0, step);
-        let log = log_of(alloc, journal(alloc, &steps)?, &[2], &[3])?;
-        assert_eq!(rt; has_commands_in_order(&script, &log), expected, "{step:?}");
+        assert_eq!(rt; are_in_order(alloc, &steps)?, expected, "{step:?}");
     }
     let at_zero = [
         (1, Step::Load(1), true),
@@ -195,20 +200,13 @@ fn commands_are_in_order(rt: HostRuntime) -> Result<(), Fail> {
     for (loader, step, expected) in at_zero {
         let mut steps = IN_TURN;
         steps[0] = (loader, step);
-        let log = log_of(alloc, journal(alloc, &steps)?, &[2], &[3])?;
-        assert_eq!(rt;
-            has_commands_in_order(&script, &log),
-            expected,
-            "{loader} {step:?}"
-        );
+        assert_eq!(rt; are_in_order(alloc, &steps)?, expected, "{loader} {step:?}");
     }
     Ok(())
 }
 
 #[test]
 fn all_commands_stand_in_the_journal(rt: HostRuntime) -> Result<(), Fail> {
-    let alloc = rt.alloc();
-    let script = read_script(alloc, SCRIPT.as_bytes())?;
     let twice = [
         (1, Step::Load(1)),
         (1, Step::Load(1)),
@@ -225,8 +223,7 @@ fn all_commands_stand_in_the_journal(rt: HostRuntime) -> Result<(), Fail> {
         (&[], false),
     ];
     for (steps, expected) in cases {
-        let log = log_of(alloc, journal(alloc, steps)?, &[2], &[3])?;
-        assert_eq!(rt; has_commands_in_order(&script, &log), expected, "{steps:?}");
+        assert_eq!(rt; are_in_order(rt.alloc(), steps)?, expected, "{steps:?}");
     }
     Ok(())
 }
@@ -244,10 +241,15 @@ fn log_of(
     })
 }
 
+/// Whether no process has a turn before its spawn, of which the first one has its first span in the one generation, and the second one in the other.
+fn have_seen_their_spawns(alloc: Global, first: u64, second: u64) -> Result<bool, Fail> {
+    let script = read_script(alloc, SCRIPT.as_bytes())?;
+    let log = log_of(alloc, journal(alloc, &IN_TURN)?, &[first, 3], &[second])?;
+    Ok(has_commands_in_order(&script, &log) && spawns_come_first(&script, &log))
+}
+
 #[test]
 fn first_turns_have_seen_their_spawns(rt: HostRuntime) -> Result<(), Fail> {
-    let alloc = rt.alloc();
-    let script = read_script(alloc, SCRIPT.as_bytes())?;
     let cases: [(u64, u64, bool); 5] = [
         (2, 3, true),
         (1, 3, false),
@@ -256,18 +258,34 @@ fn first_turns_have_seen_their_spawns(rt: HostRuntime) -> Result<(), Fail> {
         (0, 3, false),
     ];
     for (first, second, expected) in cases {
-        let log = log_of(alloc, journal(alloc, &IN_TURN)?, &[first, 3], &[second])?;
-        let holds = has_commands_in_order(&script, &log) && spawns_come_first(&script, &log);
+        let holds = have_seen_their_spawns(rt.alloc(), first, second)?;
         assert_eq!(rt; holds, expected, "{first} {second}");
     }
     Ok(())
 }
 
-#[test]
-fn turns_and_snapshots_are_of_published_generations(rt: HostRuntime) -> Result<(), Fail> {
-    let alloc = rt.alloc();
+/// A log of the script with such observers.
+fn observed(
+    alloc: Global,
+    first: &[u64],
+    second: &[u64],
+    shots: &[&[u64]],
+) -> Result<RunLog, NoMemory> {
+    let mut log = log_of(alloc, journal(alloc, &IN_TURN)?, first, second)?;
+    log.observers = observers(alloc, shots)?;
+    Ok(log)
+}
+
+/// Whether a log of the script with one snapshot is complete.
+fn is_whole(alloc: Global, first: &[u64], second: &[u64], shots: &[&[u64]]) -> Result<bool, Fail> {
     let mut script = read_script(alloc, SCRIPT.as_bytes())?;
     script.observers = CountList::from_slice(alloc, &[1])?;
+    let log = observed(alloc, first, second, shots)?;
+    Ok(is_complete(&script, &log))
+}
+
+#[test]
+fn turns_and_snapshots_are_of_published_generations(rt: HostRuntime) -> Result<(), Fail> {
     let cases: [(&[u64], &[u64], &[&[u64]], bool); 6] = [
         (&[2], &[3], &[&[3]], true),
         (&[2, 4], &[3], &[&[3]], false),
@@ -277,49 +295,69 @@ fn turns_and_snapshots_are_of_published_generations(rt: HostRuntime) -> Result<(
         (&[2], &[3], &[&[3], &[3]], false),
     ];
     for (first, second, shots, expected) in cases {
-        let mut log = log_of(alloc, journal(alloc, &IN_TURN)?, first, second)?;
-        log.observers = observers(alloc, shots)?;
-        assert_eq!(rt;
-            is_complete(&script, &log),
-            expected,
-            "{first:?} {second:?} {shots:?}"
-        );
+        let is = is_whole(rt.alloc(), first, second, shots)?;
+        assert_eq!(rt; is, expected, "{first:?} {second:?} {shots:?}");
     }
     Ok(())
+}
+
+/// Whether a log of the script is complete after a change of its processes, if there is one.
+fn is_whole_after(alloc: Global, change: Option<Change>) -> Result<bool, Fail> {
+    let script = read_script(alloc, SCRIPT.as_bytes())?;
+    let mut log = log_of(alloc, journal(alloc, &IN_TURN)?, &[2], &[3])?;
+    if let Some(change) = change {
+        change_logs(alloc, &mut log.processes, change)?;
+    }
+    Ok(is_complete(&script, &log))
 }
 
 #[test]
 fn each_spawn_has_its_log(rt: HostRuntime) -> Result<(), Fail> {
-    let alloc = rt.alloc();
-    let script = read_script(alloc, SCRIPT.as_bytes())?;
-    let cases: [(&[i64], bool); 4] = [(&[], true), (&[1], false), (&[-1], false), (&[-2], false)];
-    for (changes, expected) in cases {
-        let mut log = log_of(alloc, journal(alloc, &IN_TURN)?, &[2], &[3])?;
-        for change in changes {
-            change_logs(alloc, &mut log.processes, *change)?;
-        }
-        assert_eq!(rt; is_complete(&script, &log), expected, "{changes:?}");
+    let cases: [(Option<Change>, bool); 4] = [
+        (None, true),
+        (Some(Change::OneMore), false),
+        (Some(Change::OneLess), false),
+        (Some(Change::OtherArguments), false),
+    ];
+    for (change, expected) in cases {
+        assert_eq!(rt; is_whole_after(rt.alloc(), change)?, expected, "{change:?}");
     }
     Ok(())
 }
 
-/// Adds a log, takes the last one away, or gives it other arguments.
-fn change_logs(alloc: Global, processes: &mut ProcessLogList, change: i64) -> Result<(), NoMemory> {
-    if change == 1 {
+/// What becomes of the last log of a process.
+#[derive(Clone, Copy, Debug)]
+enum Change {
+    OneMore,
+    OneLess,
+    OtherArguments,
+}
+
+fn change_logs(
+    alloc: Global,
+    processes: &mut ProcessLogList,
+    change: Change,
+) -> Result<(), NoMemory> {
+    if matches!(change, Change::OneMore) {
         return processes.push(process(alloc, one_term(alloc, 1)?, &[3], End::Normal)?);
     }
     let _last = processes.pop();
-    if change == -2 {
+    if matches!(change, Change::OtherArguments) {
         processes.push(process(alloc, one_list(alloc, 2)?, &[3], End::Normal)?)?;
     }
     Ok(())
 }
 
-#[test]
-fn snapshots_are_counted_and_rise(rt: HostRuntime) -> Result<(), Fail> {
-    let alloc = rt.alloc();
+/// Whether these are snapshots of a script with two observers, of two snapshots and of one.
+fn fit(alloc: Global, shots: &[&[u64]]) -> Result<bool, Fail> {
     let mut script = read_script(alloc, SCRIPT.as_bytes())?;
     script.observers = CountList::from_slice(alloc, &[2, 1])?;
+    let log = observed(alloc, &[2], &[3], shots)?;
+    Ok(snapshots_fit(&script, &log))
+}
+
+#[test]
+fn snapshots_are_counted_and_rise(rt: HostRuntime) -> Result<(), Fail> {
     let cases: [(&[&[u64]], bool); 6] = [
         (&[&[0, 1], &[0]], true),
         (&[&[1, 1], &[0]], true),
@@ -329,16 +367,19 @@ fn snapshots_are_counted_and_rise(rt: HostRuntime) -> Result<(), Fail> {
         (&[&[0, 1]], true),
     ];
     for (shots, expected) in cases {
-        let mut log = log_of(alloc, journal(alloc, &IN_TURN)?, &[2], &[3])?;
-        log.observers = observers(alloc, shots)?;
-        assert_eq!(rt; snapshots_fit(&script, &log), expected, "{shots:?}");
+        assert_eq!(rt; fit(rt.alloc(), shots)?, expected, "{shots:?}");
     }
     Ok(())
 }
 
+/// Whether the spans of two processes rise.
+fn rise(alloc: Global, first: &[u64], second: &[u64]) -> Result<bool, NoMemory> {
+    let log = log_of(alloc, journal(alloc, &IN_TURN)?, first, second)?;
+    Ok(spans_rise(&log))
+}
+
 #[test]
 fn no_span_is_older_than_the_one_before(rt: HostRuntime) -> Result<(), Fail> {
-    let alloc = rt.alloc();
     let cases: [(&[u64], &[u64], bool); 5] = [
         (&[], &[], true),
         (&[1, 1, 2], &[0, 5], true),
@@ -347,23 +388,30 @@ fn no_span_is_older_than_the_one_before(rt: HostRuntime) -> Result<(), Fail> {
         (&[2], &[1], true),
     ];
     for (first, second, expected) in cases {
-        let log = log_of(alloc, journal(alloc, &IN_TURN)?, first, second)?;
-        assert_eq!(rt; spans_rise(&log), expected, "{first:?} {second:?}");
+        assert_eq!(rt;
+            rise(rt.alloc(), first, second)?,
+            expected,
+            "{first:?} {second:?}"
+        );
     }
     Ok(())
 }
 
-#[test]
-fn serials_of_kills_are_gathered(rt: HostRuntime) -> Result<(), Fail> {
-    let alloc = rt.alloc();
+/// Whether a process is killed by a purge of this instance, in a log in which two such purges kill processes.
+fn is_of_a_kill(alloc: Global, serial: u64) -> Result<bool, NoMemory> {
     let mut log = log_of(alloc, journal(alloc, &IN_TURN)?, &[2], &[3])?;
     for fin in [End::Killed(7), End::Badarg, End::Killed(9), End::Killed(7)] {
         log.processes
             .push(process(alloc, one_term(alloc, 1)?, &[3], fin)?)?;
     }
     let serials = killed_serials(alloc, &log)?;
+    Ok(is_killed(&serials, serial))
+}
+
+#[test]
+fn serials_of_kills_are_gathered(rt: HostRuntime) -> Result<(), Fail> {
     for (serial, expected) in [(7, true), (8, false), (9, true), (0, false)] {
-        assert_eq!(rt; is_killed(&serials, serial), expected, "{serial}");
+        assert_eq!(rt; is_of_a_kill(rt.alloc(), serial)?, expected, "{serial}");
     }
     Ok(())
 }
