@@ -1,6 +1,7 @@
 //! The end of a run: all tokens come in, and what was done is told.
 
-ghost use Rattle.std.specs.Prelude.{◌≡◌, ◌<◌, IfOk, OnOk, length};
+ghost use Rattle.std.specs.Prelude.{◌≡◌, ◌<◌, ℕ, IfOk, OnOk, Some, length, slice_get};
+ghost use Rattle.observers.specs.Observing.{Observes};
 ghost use Rattle.run_law.specs.Ends.{IsHistory};
 ghost use Rattle.run_log.specs.ExportedFunctions.{AreExportedFunctions};
 ghost use Rattle.script_core.specs.Processes.{spawns_of};
@@ -8,11 +9,12 @@ ghost use Rattle.script_core.specs.Sound.{IsScript};
 ghost use Rattle.shared_words.specs.Seats.{writer_of};
 ghost use Rattle.word_permit.specs.Books.{KeepsRun};
 ghost use Rattle.word_permit.specs.Runs.{IsOverWords};
+ghost use Rattle.word_run.specs.declared.onlooker.Onlooker.{Onlooker};
 ghost use Rattle.word_run.specs.Desks.{IsDesk};
 ghost use Rattle.word_run.specs.Finished.{AddsParts, AreLogged, AreParted, AreSettled, HasGathered};
 ghost use Rattle.word_run.specs.Loaders.{AreEnds, AreInboxes, AreTakers};
 ghost use Rattle.word_run.specs.Names.{HasTable};
-ghost use Rattle.word_run.specs.Onlookers.{AreOnlookers};
+ghost use Rattle.word_run.specs.Onlookers.{AreOnlookers, HaveLeft};
 ghost use Rattle.word_run.specs.Rounds.{AreAllIdle, HaveTakers, IsDone, IsRun};
 
 use crate::desk::Desk;
@@ -22,12 +24,12 @@ use crate::ran::Ran;
 use crate::run::Run;
 use crate::scheduler::Scheduler;
 use crate::seat::Seat;
-use code_law::Naming;
+use code_law::{CodeLaw, Naming};
 use inbox::{Inbox, InboxNames, Poster, Taker};
 use run_law::{closed_tables_tell, journals_are_sound, runs_are_histories};
 use run_log::{EntryList, MfaList, ObserverList, RunLog};
 use script_core::Script;
-use shared_words::{Member, Parts, Writer, close};
+use shared_words::{Member, Parts, Shared, Writer, close};
 use staging::Tables;
 use std::alloc::Global;
 use std::sync::Wait;
@@ -60,6 +62,14 @@ struct Gathered {
     processes: Vec<Vec<Option<ProcessRun>>>,
 }
 
+/// What is left of a run that has ended: its words, what its observers leave, and what came together.
+#[derive(Drop)]
+struct Ended<K: Naming> {
+    shared: Shared<CodeLaw<K>>,
+    watched: Watched,
+    gathered: Gathered,
+}
+
 /// The log of a run that has nothing left to do, once its observers took the snapshots that they lack, and its words.
 pub fn finish<K: Naming, N: RunName, T: TableName, I: InboxNames, R: Wait>(
     rt: &R,
@@ -82,6 +92,45 @@ pub fn finish<K: Naming, N: RunName, T: TableName, I: InboxNames, R: Wait>(
     closed_tables_tell();
     kept_processes_have_run();
     runs_are_histories();
+    let ended = end_run(rt, alloc, functions, run)?;
+    let Ended {
+        shared,
+        watched,
+        gathered,
+    } = ended;
+    let Watched { watchers, logs } = watched;
+    let Gathered {
+        journal,
+        writer,
+        members,
+        processes,
+    } = gathered;
+    let parts = Parts {
+        writer,
+        members,
+        watchers,
+    };
+    let log = log_run(alloc, script, journal, processes, logs)?;
+    let closed = close(alloc, shared, parts)?;
+    Ok(Ran { log, closed })
+}
+
+/// All ends come together, and the observers take the snapshots that they lack.
+fn end_run<K: Naming, N: RunName, T: TableName, I: InboxNames, R: Wait>(
+    rt: &R,
+    alloc: Global,
+    functions: &MfaList,
+    run: Run<K, N, T, I>,
+) -> Result<Ended<K>, NoMemory>
+    requires exports { run.sight.exports ≡ K.names }
+    requires observe { (k : ℕ) (onlooker : Onlooker) → slice_get run.onlookers.items k ≡ Some onlooker → Observes K.names functions.now run.shared.table.shared.table_id onlooker.observer }
+    requires many { length run.desk.posted ≡ length run.inboxes.items }
+    requires inboxes { AreInboxes run.inboxes.items }
+    requires takers { HaveTakers run.seats.items }
+    ensures shared { IfOk result (λ ended. ended.shared ≡ run.shared) }
+    ensures watched { IfOk result (λ ended. HaveLeft K.names functions.now run.shared.table.shared.table_id run.onlookers.items ended.watched.watchers.items ended.watched.logs) }
+    ensures gathered { IfOk result (λ ended. HasGathered K.names N.run run.desk run.seats.items ended.gathered.journal ended.gathered.writer ended.gathered.members.items ended.gathered.processes.items) }
+{
     let Run {
         shared,
         desk,
@@ -90,23 +139,13 @@ pub fn finish<K: Naming, N: RunName, T: TableName, I: InboxNames, R: Wait>(
         onlookers,
         sight,
     } = run;
-    let watched = take_rest(alloc, &shared, functions, &sight.exports, onlookers)?;
-    let Watched { watchers, logs } = watched;
     let gathered = gather(rt, alloc, desk, inboxes, seats)?;
-    let Gathered {
-        journal,
-        writer,
-        members,
-        processes,
-    } = gathered;
-    let log = log_run(alloc, script, journal, processes, logs)?;
-    let parts = Parts {
-        writer,
-        members,
-        watchers,
-    };
-    let closed = close(alloc, shared, parts)?;
-    Ok(Ran { log, closed })
+    let watched = take_rest(alloc, &shared, functions, &sight.exports, onlookers)?;
+    Ok(Ended {
+        shared,
+        watched,
+        gathered,
+    })
 }
 
 /// The ends of all inboxes come together, and the schedulers and the desk are taken apart.
