@@ -85,6 +85,15 @@ fn are_retired(server: &Server, serials: &[u64]) -> bool {
     next.is_none()
 }
 
+// The second instance is old, nothing is current, and nothing is left to release.
+fn only_old_code_is_left(rt: &impl Abort, server: &Server) {
+    assert!(rt; server.current(AtomId(3)).is_none());
+    assert!(rt; server.old(AtomId(3)) == Some(2));
+    assert!(rt; server.dispatch(main_of(3)).is_none());
+    assert!(rt; server.generation() == 4);
+    assert!(rt; server.oldest_retired().is_none());
+}
+
 #[test]
 fn code_comes_in_and_goes(rt: HostRuntime) -> Result<(), Fail> {
     let server = answers(
@@ -105,12 +114,20 @@ fn code_comes_in_and_goes(rt: HostRuntime) -> Result<(), Fail> {
             (Step::Load(3, 4), "not enabled"),
         ],
     )?;
-    assert!(rt; server.current(AtomId(3)).is_none());
-    assert!(rt; server.old(AtomId(3)) == Some(2));
-    assert!(rt; server.dispatch(main_of(3)).is_none());
-    assert!(rt; server.generation() == 4);
-    assert!(rt; server.oldest_retired().is_none());
+    only_old_code_is_left(&rt, &server);
     Ok(())
+}
+
+fn first_is_doomed(rt: &impl Abort, server: &Server) {
+    assert!(rt; server.doomed_area() == Some(1));
+    assert!(rt; server.doomed(1));
+    assert!(rt; !server.doomed(2));
+}
+
+fn first_is_retired(rt: &impl Abort, server: &Server) {
+    assert!(rt; server.doomed_area().is_none());
+    assert!(rt; server.retired(1));
+    assert!(rt; !server.retired(2));
 }
 
 #[test]
@@ -129,17 +146,21 @@ fn few_commands_go_on_while_code_is_doomed(rt: HostRuntime) -> Result<(), Fail> 
             (Step::Spawn(3), "ok -"),
         ],
     )?;
-    assert!(rt; server.doomed_area() == Some(1));
-    assert!(rt; server.doomed(1) && !server.doomed(2));
+    first_is_doomed(&rt, &server);
     let rows = [
         (Step::Kill(3), "true @4"),
         (Step::Kill(3), "not enabled"),
         (Step::Purge(3), "false -"),
     ];
     make(&rt, &mut server, &rows)?;
-    assert!(rt; server.doomed_area().is_none());
-    assert!(rt; server.retired(1) && !server.retired(2));
+    first_is_retired(&rt, &server);
     Ok(())
+}
+
+// Whether the second instance is traced, and the first one too or not.
+fn are_traced(rt: &impl Abort, server: &Server, first: bool) {
+    assert!(rt; server.traced(first_of(1)) == first);
+    assert!(rt; server.traced(first_of(2)));
 }
 
 #[test]
@@ -156,10 +177,21 @@ fn a_breakpoint_goes_with_its_instance(rt: HostRuntime) -> Result<(), Fail> {
             (Step::Trace(3), "true @4"),
         ],
     )?;
-    assert!(rt; server.traced(first_of(1)) && server.traced(first_of(2)));
+    are_traced(&rt, &server, true);
     make(&rt, &mut server, &[(Step::SoftPurge(3), "true @5")])?;
-    assert!(rt; !server.traced(first_of(1)) && server.traced(first_of(2)));
+    are_traced(&rt, &server, false);
     Ok(())
+}
+
+// What three keys hold: nothing, the integer 7, and the words of the sixth area.
+fn keys_hold(rt: &impl Abort, server: &Server) {
+    let area = AreaRef {
+        serial: 6,
+        block: 0,
+    };
+    assert!(rt; server.term(AtomId(20)) == Found::Absent);
+    assert!(rt; server.term(AtomId(21)) == Found::Word(113));
+    assert!(rt; server.term(AtomId(22)) == Found::Area(area));
 }
 
 #[test]
@@ -189,28 +221,12 @@ fn a_key_holds_the_last_term_that_was_put(rt: HostRuntime) -> Result<(), Fail> {
     ];
     make(&rt, &mut server, &rows)?;
     assert!(rt; are_retired(&server, &[1, 4, 5]));
-    assert!(rt; server.term(AtomId(20)) == Found::Absent);
-    assert!(rt; server.term(AtomId(21)) == Found::Word(113));
-    let area = AreaRef {
-        serial: 6,
-        block: 0,
-    };
-    assert!(rt; server.term(AtomId(22)) == Found::Area(area));
+    keys_hold(&rt, &server);
     Ok(())
 }
 
 // The words are worked out by hand: a tuple's counts its terms, tag 3, a list's tag 4, and an integer's tag is 1.
-#[test]
-fn areas_keep_their_words(rt: HostRuntime) -> Result<(), Fail> {
-    let server = answers(
-        &rt,
-        &[
-            (Step::Load(3, 2), "ok @1"),
-            (Step::Put(20, Value::TupleOfSeven), "ok @2"),
-            (Step::Put(20, Value::EmptyTuple), "ok @3"),
-            (Step::Put(20, Value::EmptyList), "ok @4"),
-        ],
-    )?;
+fn words_are_kept(rt: &impl Abort, server: &Server) {
     let words = [
         (1, 0, Some(1)),
         (1, 1, Some(3)),
@@ -231,5 +247,19 @@ fn areas_keep_their_words(rt: HostRuntime) -> Result<(), Fail> {
     }
     let serial = server.dispatch(main_of(3)).map(|at| at.area.serial);
     assert!(rt; serial == Some(1));
+}
+
+#[test]
+fn areas_keep_their_words(rt: HostRuntime) -> Result<(), Fail> {
+    let server = answers(
+        &rt,
+        &[
+            (Step::Load(3, 2), "ok @1"),
+            (Step::Put(20, Value::TupleOfSeven), "ok @2"),
+            (Step::Put(20, Value::EmptyTuple), "ok @3"),
+            (Step::Put(20, Value::EmptyList), "ok @4"),
+        ],
+    )?;
+    words_are_kept(&rt, &server);
     Ok(())
 }
