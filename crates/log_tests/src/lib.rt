@@ -13,3 +13,5 @@ mod logs;
 mod shapes;
 #[cfg(test)]
 mod spans;
+#[cfg(test)]
+mod two_spawns;
