@@ -6,7 +6,7 @@ use std::alloc::Global;
 use term_core::{AtomId, NoMemory, Term, TermList};
 
 /// A term of an instruction, of an argument or of a line.
-#[derive(Clone, Copy, Debug)]
+#[derive(Clone, Copy)]
 pub enum Arg {
     Reg(u32),
     Int(i64),
@@ -17,7 +17,7 @@ pub enum Arg {
 }
 
 /// An instruction, short enough for a row of a table.
-#[derive(Clone, Copy, Debug)]
+#[derive(Clone, Copy)]
 pub enum Step {
     Move(Arg, u32),
     Add(Arg, Arg, u32),

@@ -11,7 +11,6 @@ use mod_core::{Function, FunctionList, InstrList, Module, ModuleList, validate};
 use server_core::{Cmd, ModRef, RefList, Server};
 use std::alloc::Global;
 use std::process::Abort;
-use std::test::Fail;
 use term_core::{AtomId, Mfa, NoMemory, TermList, read_image};
 
 /// The module, its function and a name that nothing has.
@@ -20,7 +19,7 @@ const M: AtomId = AtomId(3);
 const MAIN: AtomId = AtomId(4);
 
 /// A persistent term: its key, and the words of its image.
-#[derive(Clone, Copy, Debug)]
+#[derive(Clone, Copy)]
 struct Put {
     key: u32,
     words: &'static [u64],
@@ -52,6 +51,16 @@ struct Finished {
     end: End,
 }
 
+/// The texts to load from: the module `m.1` of the function `main`, or nothing where it is no module.
+fn texts_of(arity: u32, code: InstrList, alloc: Global) -> Result<Option<ModuleList>, NoMemory>
+    ensures { IfOk result (λ o. IfSome o AreTexts) }
+{
+    match module_of(arity, code, alloc)? {
+        Some(module) => Ok(Some(one_text(module, alloc)?)),
+        None => Ok(None),
+    }
+}
+
 /// The module `m.1` of the function `main`, or nothing where it is no module.
 fn module_of(arity: u32, code: InstrList, alloc: Global) -> Result<Option<Module>, NoMemory>
     ensures { IfOk result (λ o. IfSome o IsModule) }
@@ -75,7 +84,6 @@ fn module_of(arity: u32, code: InstrList, alloc: Global) -> Result<Option<Module
     }
 }
 
-/// The texts to load from: one module.
 fn one_text(module: Module, alloc: Global) -> Result<ModuleList, NoMemory>
     requires { IsModule «module» }
     ensures { IfOk result AreTexts }
@@ -85,21 +93,15 @@ fn one_text(module: Module, alloc: Global) -> Result<ModuleList, NoMemory>
     Ok(texts)
 }
 
-/// A server that has loaded the module.
-fn loaded(module: Module, alloc: Global) -> Result<Option<Server>, NoMemory>
-    requires { IsModule «module» }
+fn load_command(alloc: Global) -> Result<Cmd, NoMemory>
+    ensures { IfOk result IsOfText }
 {
-    let texts = one_text(module, alloc)?;
     let mut refs = RefList::new(alloc);
     refs.push(ModRef {
         name: M,
         version: 1,
     })?;
-    let mut server = Server::new(alloc)?;
-    match server.apply(&Cmd::Load(refs), &texts) {
-        Ok(_) => Ok(Some(server)),
-        Err(_) => Ok(None),
-    }
+    Ok(Cmd::Load(refs))
 }
 
 /// The command that puts the term.
@@ -115,37 +117,16 @@ fn put_command(put: Put, alloc: Global) -> Result<Cmd, NoMemory>
     }
 }
 
-/// No modules to load from.
-fn no_texts(alloc: Global) -> ModuleList
-    ensures { AreTexts result }
+/// Loads the module and puts the terms.
+fn make(rt: &(impl AllocGlobal + Abort), server: &mut Server, texts: &ModuleList, puts: &[Put])
+    requires { AreTexts texts.now }
 {
-    ModuleList::new(alloc)
-}
-
-/// Makes a command. Where it is not made, nothing changes.
-fn make(server: &mut Server, cmd: &Cmd, alloc: Global)
-    requires { IsOfText cmd.now }
-{
-    let _ = server.apply(cmd, &no_texts(alloc));
-}
-
-/// A server whose module `m` has this function `main`, and which keeps these persistent terms.
-fn server_of(
-    puts: &[Put],
-    arity: u32,
-    code: InstrList,
-    alloc: Global,
-) -> Result<Option<Server>, NoMemory> {
-    let Some(module) = module_of(arity, code, alloc)? else {
-        return Ok(None);
-    };
-    let Some(mut server) = loaded(module, alloc)? else {
-        return Ok(None);
-    };
+    let load = load_command(rt.alloc()).expect(rt, "a load");
+    assert!(rt; server.apply(&load, texts).is_ok());
     for put in puts {
-        make(&mut server, &put_command(*put, alloc)?, alloc);
+        let cmd = put_command(*put, rt.alloc()).expect(rt, "a put");
+        assert!(rt; server.apply(&cmd, texts).is_ok(), "key {}", put.key);
     }
-    Ok(Some(server))
 }
 
 /// A process of `m:main` that has had no turn.
@@ -184,91 +165,103 @@ fn run_to_end(
     Ok(None)
 }
 
-fn expect(rt: &(impl AllocGlobal + Abort), case: Case) -> Result<(), Fail> {
-    let alloc = rt.alloc();
-    let name = case.name;
-    let args = args_of(case.args, alloc)?;
-    assert!(rt; args.len() < 16, "{name}");
-    let code = code_of(case.code, alloc)?;
-    let server = server_of(case.puts, args.len() as u32, code, alloc)?;
-    let process = process_of_main(args, alloc)?;
-    let done = run_to_end(&server.ok_or("a server")?, process, alloc)?;
-    let done = done.ok_or("an end")?;
-    assert!(rt; done.end == case.end, "{name}");
-    assert!(rt; done.turns == case.turns, "{name}");
-    let lines = lines_of(case.prints, alloc)?;
-    assert!(rt; done.lines.as_slice() == lines.as_slice(), "{name}");
-    Ok(())
+/// Loads the module of a case, and puts its terms.
+fn prepare(rt: &(impl AllocGlobal + Abort), server: &mut Server, case: Case) {
+    assert!(rt; case.args.len() < 16);
+    let code = code_of(case.code, rt.alloc()).expect(rt, "code");
+    let texts = texts_of(case.args.len() as u32, code, rt.alloc()).expect(rt, "texts");
+    make(rt, server, &texts.expect(rt, "a module"), case.puts);
 }
 
-/// What has no persistent terms and no arguments, and ends in its first turn.
-const fn plain<'a>(name: &'a str, code: &'a [Step], prints: &'a [Arg], end: End) -> Case<'a> {
-    Case {
-        name,
-        puts: &[],
-        args: &[],
-        code,
-        prints,
-        turns: 1,
-        end,
-    }
+/// What the process of a case does. Nothing comes where it has not ended after four turns.
+fn run_process(rt: &(impl AllocGlobal + Abort), server: &Server, case: Case) -> Option<Finished> {
+    let args = args_of(case.args, rt.alloc()).expect(rt, "arguments");
+    assert!(rt; args.len() < 16);
+    let process = process_of_main(args, rt.alloc()).expect(rt, "a process");
+    run_to_end(server, process, rt.alloc()).expect(rt, "memory")
 }
+
+/// Whether the process of a case does what is expected.
+fn is_expected_on(rt: &(impl AllocGlobal + Abort), server: &mut Server, case: Case) -> bool {
+    prepare(rt, server, case);
+    let done = run_process(rt, server, case).expect(rt, "an end");
+    is_expected(&done, case, rt.alloc()).expect(rt, "lines")
+}
+
+/// The same on a new server, of which nothing else is done here: each further step beside it is dear to prove.
+fn does(rt: &(impl AllocGlobal + Abort), case: Case) -> bool {
+    let mut server = Server::new(rt.alloc()).expect(rt, "a server");
+    is_expected_on(rt, &mut server, case)
+}
+
+/// Whether this is what the case expects.
+fn is_expected(done: &Finished, case: Case, alloc: Global) -> Result<bool, NoMemory> {
+    let lines = lines_of(case.prints, alloc)?;
+    let same = done.lines.as_slice() == lines.as_slice();
+    Ok(same && done.end == case.end && done.turns == case.turns)
+}
+
+const SUM: Case<'static> = Case {
+    name: "the worked example",
+    puts: &[],
+    args: &[],
+    code: &[
+        Step::Add(Arg::Int(1), Arg::Int(2), 0),
+        Step::Print(Arg::Reg(0)),
+    ],
+    prints: &[Arg::Int(3)],
+    turns: 1,
+    end: End::Normal,
+};
+
+const ELEMENTS: Case<'static> = Case {
+    name: "a constant, and an element of an element",
+    puts: &[],
+    args: &[],
+    code: &[
+        Step::Move(Arg::Nested, 0),
+        Step::Print(Arg::Reg(0)),
+        Step::Elem(Arg::Int(2), Arg::Reg(0), 1),
+        Step::Print(Arg::Reg(1)),
+        Step::Elem(Arg::Int(1), Arg::Reg(1), 2),
+        Step::Print(Arg::Reg(2)),
+    ],
+    prints: &[Arg::Nested, Arg::One, Arg::Int(1)],
+    turns: 1,
+    end: End::Normal,
+};
+
+const KEYS: Case<'static> = Case {
+    name: "what keys hold, what others stand for, and a yield",
+    puts: &[
+        Put {
+            key: 10,
+            words: SEVEN,
+        },
+        Put {
+            key: 11,
+            words: TUPLE,
+        },
+    ],
+    args: &[Arg::One],
+    code: &[
+        Step::Pget(10, 1),
+        Step::Print(Arg::Reg(1)),
+        Step::PgetOr(11, Arg::Int(5), 2),
+        Step::Yield,
+        Step::Print(Arg::Reg(2)),
+        Step::PgetOr(12, Arg::Int(5), 3),
+        Step::Print(Arg::Reg(3)),
+        Step::Elem(Arg::Int(2), Arg::Reg(0), 4),
+    ],
+    prints: &[Arg::Int(7), Arg::One, Arg::Int(5)],
+    turns: 2,
+    end: End::Badarg,
+};
 
 #[test]
-fn processes_run_to_their_ends(rt: HostRuntime) -> Result<(), Fail> {
-    let cases = [
-        plain(
-            "the worked example",
-            &[
-                Step::Add(Arg::Int(1), Arg::Int(2), 0),
-                Step::Print(Arg::Reg(0)),
-            ],
-            &[Arg::Int(3)],
-            End::Normal,
-        ),
-        plain(
-            "a constant, and an element of an element",
-            &[
-                Step::Move(Arg::Nested, 0),
-                Step::Print(Arg::Reg(0)),
-                Step::Elem(Arg::Int(2), Arg::Reg(0), 1),
-                Step::Print(Arg::Reg(1)),
-                Step::Elem(Arg::Int(1), Arg::Reg(1), 2),
-                Step::Print(Arg::Reg(2)),
-            ],
-            &[Arg::Nested, Arg::One, Arg::Int(1)],
-            End::Normal,
-        ),
-        Case {
-            name: "what keys hold, what others stand for, and a yield",
-            puts: &[
-                Put {
-                    key: 10,
-                    words: SEVEN,
-                },
-                Put {
-                    key: 11,
-                    words: TUPLE,
-                },
-            ],
-            args: &[Arg::One],
-            code: &[
-                Step::Pget(10, 1),
-                Step::Print(Arg::Reg(1)),
-                Step::PgetOr(11, Arg::Int(5), 2),
-                Step::Yield,
-                Step::Print(Arg::Reg(2)),
-                Step::PgetOr(12, Arg::Int(5), 3),
-                Step::Print(Arg::Reg(3)),
-                Step::Elem(Arg::Int(2), Arg::Reg(0), 4),
-            ],
-            prints: &[Arg::Int(7), Arg::One, Arg::Int(5)],
-            turns: 2,
-            end: End::Badarg,
-        },
-    ];
-    for case in cases {
-        expect(&rt, case)?;
+fn processes_run_to_their_ends(rt: HostRuntime) {
+    for case in [SUM, ELEMENTS, KEYS] {
+        assert!(rt; does(&rt, case), "{}", case.name);
     }
-    Ok(())
 }
