@@ -1,12 +1,13 @@
-ghost use Rattle.server_core.specs.CommandTable.{AreTexts};
+ghost use Rattle.script_core.specs.Sound.{IsScript};
 
-use mod_core::ModuleList;
+use crate::loaded::{Look, is_shown};
 use run_log::{MfaList, exported_functions, exports_of, snapshot_of};
+use script_core::Script;
 use script_text::read_script;
-use server_core::{ApplyFault, Cmd, ModRef, RefList, Server};
+use server_core::Server;
 use std::alloc::Global;
 use std::test::Fail;
-use term_core::{AtomId, ByteList, Mfa, Names, NoMemory, print_atom, print_number};
+use term_core::{ByteList, Mfa, Names, NoMemory, print_atom, print_number};
 
 /// Two versions of m, which share a function, and a module whose name stands before m.
 const TWO_MODULES: &str = "beam script 1
@@ -44,9 +45,6 @@ end
 go
 ";
 
-/// The first atom of a script after the three given ones.
-const M: AtomId = AtomId(3);
-
 fn print_function(names: &Names, to: Mfa, out: &mut ByteList) -> Result<(), NoMemory> {
     print_atom(names, to.module, out)?;
     out.push(b':')?;
@@ -55,40 +53,40 @@ fn print_function(names: &Names, to: Mfa, out: &mut ByteList) -> Result<(), NoMe
     print_number(to.arity as u64, out)
 }
 
-fn listed(alloc: Global, names: &Names, functions: &MfaList) -> Result<ByteList, NoMemory> {
-    let mut listed = ByteList::new(alloc);
-    for to in functions.as_slice() {
-        print_function(names, *to, &mut listed)?;
-        listed.push(b'\n')?;
+fn lines_of(alloc: Global, names: &Names, functions: &[Mfa]) -> Result<ByteList, Fail> {
+    let mut out = ByteList::new(alloc);
+    for to in functions {
+        print_function(names, *to, &mut out)?;
+        out.push(b'\n')?;
     }
-    Ok(listed)
+    Ok(out)
+}
+
+fn functions_of(alloc: Global, script: &Script) -> Result<ByteList, Fail>
+    requires { IsScript script.now }
+{
+    let functions = exported_functions(alloc, script)?;
+    lines_of(alloc, &script.names, functions.as_slice())
+}
+
+/// The exported functions of a script, a line each.
+fn listed(alloc: Global, text: &str) -> Result<ByteList, Fail> {
+    let script = read_script(alloc, text.as_bytes())?;
+    functions_of(alloc, &script)
 }
 
 #[test]
 fn functions_stand_in_order_each_once(rt: HostRuntime) -> Result<(), Fail> {
-    let alloc = rt.alloc();
     let cases = [
         ("beam script 1\ngo\n", ""),
         (TWO_MODULES, "b:z/0\nm:a/0\nm:a/2\nm:a/10\nm:b/1\n"),
         (ORDERED_BY_BYTES, "m:e/0\nm:f/0\nmB:f/0\nm_:f/0\nma:f/0\n"),
     ];
     for (text, expected) in cases {
-        let script = read_script(alloc, text.as_bytes())?;
-        let functions = exported_functions(alloc, &script)?;
-        let listed = listed(alloc, &script.names, &functions)?;
+        let listed = listed(rt.alloc(), text)?;
         assert_eq!(rt; listed.as_slice(), expected.as_bytes());
     }
     Ok(())
-}
-
-/// A server that has loaded a version of the module whose name is the first of a script.
-pub(crate) fn loaded(alloc: Global, version: u32, texts: &ModuleList) -> Result<Server, ApplyFault>
-    requires { AreTexts texts.now }
-{
-    let refs = RefList::from_slice(alloc, &[ModRef { name: M, version }])?;
-    let mut server = Server::new(alloc)?;
-    server.apply(&Cmd::Load(refs), texts)?;
-    Ok(server)
 }
 
 /// Prints the exports, each with the serial of its instance.
@@ -102,31 +100,33 @@ fn tell(names: &Names, exports: &[(Mfa, u64)], out: &mut ByteList) -> Result<(),
     Ok(())
 }
 
-/// The exports of a server, and what an observer sees: a generation and its exports.
-fn seen(
+fn snapshot(
     alloc: Global,
     names: &Names,
     server: &Server,
     functions: &MfaList,
-) -> Result<ByteList, NoMemory> {
-    let exports = exports_of(alloc, server, functions)?;
-    let mut out = ByteList::new(alloc);
-    tell(names, exports.as_slice(), &mut out)?;
+    out: &mut ByteList,
+) -> Result<(), NoMemory> {
     let shot = snapshot_of(alloc, server, functions)?;
-    print_number(shot.generation, &mut out)?;
+    print_number(shot.generation, out)?;
     out.push(b'\n')?;
-    tell(names, shot.exports.as_slice(), &mut out)?;
+    tell(names, shot.exports.as_slice(), out)
+}
+
+/// The exports of a server, and what an observer sees: a generation and its exports.
+pub fn seen(alloc: Global, script: &Script, server: &Server) -> Result<ByteList, NoMemory>
+    requires { IsScript script.now }
+{
+    let functions = exported_functions(alloc, script)?;
+    let exports = exports_of(alloc, server, &functions)?;
+    let mut out = ByteList::new(alloc);
+    tell(&script.names, exports.as_slice(), &mut out)?;
+    snapshot(alloc, &script.names, server, &functions, &mut out)?;
     Ok(out)
 }
 
 #[test]
-fn exports_of_current_code_are_seen(rt: HostRuntime) -> Result<(), Fail> {
-    let alloc = rt.alloc();
-    let script = read_script(alloc, TWO_MODULES.as_bytes())?;
-    let functions = exported_functions(alloc, &script)?;
-    let server = loaded(alloc, 2, &script.modules)?;
-    let seen = seen(alloc, &script.names, &server, &functions)?;
+fn exports_of_current_code_are_seen(rt: HostRuntime) {
     let expected = "m:a/0 1\nm:a/2 1\nm:a/10 1\n1\nm:a/0 1\nm:a/2 1\nm:a/10 1\n";
-    assert!(rt; seen.as_slice() == expected.as_bytes());
-    Ok(())
+    assert!(rt; is_shown(&rt, TWO_MODULES, 2, Look::Exports(expected)));
 }

@@ -1,222 +1,168 @@
-use legality::{Clause, first_breach, legal};
-use machine_core::{End, Line, LineList};
-use run_log::{
-    Entry, EntryList, ObserverList, ProcessLog, ProcessLogList, RunLog, Span, SpanList, Who,
+//! What the judge of logs, and each part of it, says of a report behind its script.
+
+ghost use Rattle.script_core.specs.Sound.{IsScript};
+
+use legality::{
+    Clause, first_breach, has_commands_in_order, is_complete, is_killed, killed_serials, legal,
+    snapshots_fit, spans_rise, spawns_come_first,
 };
+use report_text::read_report;
+use run_log::RunLog;
+use script_core::Script;
 use script_text::read_script;
-use server_core::{Cmd, ModRef, RefList, Reply};
 use std::alloc::Global;
 use std::test::Fail;
-use term_core::{AtomId, Mfa, NoMemory, Term, TermList};
+use term_core::Names;
 
-/// The first names of each script: three are given, and each text of a module begins with its name and `main`.
-const FIRST: AtomId = AtomId(3);
-
-const SECOND: AtomId = AtomId(4);
-
-const THIRD: AtomId = AtomId(5);
-
-/// A process that waits for a flag in m.1, whose external call goes to m.2.
-const REPLACED: &str = "beam script 1
+/// Two loaders, each of which spawns a process, and an observer.
+const SCRIPT: &str = "beam script 1
 module m.1
-export main/0
-label a
-yield
-pget_or flag 0 $1
-eq $1 0 a
-call_ext m:say/0 $0
-print $0
-export say/0
-ret 1
+export main/1
 end
-module m.2
-export main/0
-export say/0
-ret 2
-end
+observer 2
+loader
+put k {1}
+spawn m:main(1)
 loader
 load m.1
-spawn m:main()
-load m.2
-put flag 1
+purge m
+spawn m:main([1])
 go
 ";
 
-/// A journal of one loader.
-#[derive(Drop)]
-struct Journal {
-    entries: EntryList,
-    alloc: Global,
+/// A lawful report of it.
+const REPORT: &str = "beam report 1
+generations 2
+entry L0 put k {1} = ok @1
+entry L1 load m.1 = ok @2
+entry L0 spawn m:main(1) = ok -
+entry L1 purge m = false -
+entry L1 spawn m:main([1]) = ok -
+process 0 m:main(1)
+span 2 1
+end normal
+process 1 m:main([1])
+span 2 1
+end normal
+observer 0
+snapshot 0
+snapshot 2
+export m:main/1 2
+end report
+";
+
+/// What is asked of a log.
+#[derive(Clone, Copy, Debug)]
+enum Asked {
+    Lawful,
+    /// whether this is the clause that it is found to break
+    Breaks(Clause),
+    CommandsInOrder,
+    SpawnsFirst,
+    Complete,
+    SnapshotsFit,
+    SpansRise,
+    /// whether a process is killed by a purge of this instance
+    Kills(u64),
 }
 
-impl Journal {
-    fn new(alloc: Global) -> Journal {
-        Journal {
-            entries: EntryList::new(alloc),
-            alloc,
+fn breaks(alloc: Global, clause: Clause, script: &Script, log: &RunLog) -> Result<bool, Fail>
+    requires { IsScript script.now }
+{
+    match first_breach(alloc, script, log)? {
+        Some(breach) => Ok(breach.clause == clause),
+        None => Ok(false),
+    }
+}
+
+fn kills(alloc: Global, serial: u64, log: &RunLog) -> Result<bool, Fail> {
+    Ok(is_killed(&killed_serials(alloc, log)?, serial))
+}
+
+fn is_so(alloc: Global, asked: Asked, script: &Script, log: &RunLog) -> Result<bool, Fail>
+    requires { IsScript script.now }
+{
+    match asked {
+        Asked::Lawful => Ok(legal(alloc, script, log)?),
+        Asked::Breaks(clause) => breaks(alloc, clause, script, log),
+        Asked::CommandsInOrder => Ok(has_commands_in_order(script, log)),
+        Asked::SpawnsFirst => {
+            Ok(has_commands_in_order(script, log) && spawns_come_first(script, log))
         }
-    }
-
-    /// One more entry.
-    fn made(&mut self, cmd: Cmd, reply: Reply, published: Option<u64>) -> Result<(), NoMemory> {
-        self.entries.push(Entry {
-            who: Who::Loader(0),
-            cmd,
-            reply,
-            published,
-        })
-    }
-
-    fn loaded(&mut self, modules: &[(AtomId, u32)], generation: u64) -> Result<(), NoMemory> {
-        let mut refs = RefList::new(self.alloc);
-        for (name, version) in modules {
-            refs.push(ModRef {
-                name: *name,
-                version: *version,
-            })?;
-        }
-        self.made(Cmd::Load(refs), Reply::Ok, Some(generation))
-    }
-
-    fn spawned(&mut self, target: Mfa) -> Result<(), NoMemory> {
-        let args = TermList::new(self.alloc);
-        self.made(Cmd::Spawn { target, args }, Reply::Ok, None)
-    }
-
-    fn put(&mut self, key: AtomId, term: Term, generation: u64) -> Result<(), NoMemory> {
-        self.made(Cmd::Put { key, term }, Reply::Ok, Some(generation))
+        Asked::Complete => Ok(is_complete(script, log)),
+        Asked::SnapshotsFit => Ok(snapshots_fit(script, log)),
+        Asked::SpansRise => Ok(spans_rise(log)),
+        Asked::Kills(serial) => kills(alloc, serial, log),
     }
 }
 
-/// A function without arguments.
-fn function(module: AtomId, name: AtomId) -> Mfa {
-    Mfa {
-        module,
-        name,
-        arity: 0,
-    }
+/// The log of the report with another text in the place of one of its texts.
+fn changed(alloc: Global, names: &Names, old: &str, new: &str) -> Result<RunLog, Fail> {
+    let report = REPORT.replace(alloc, old, new)?;
+    Ok(read_report(alloc, names, report.as_bytes())?)
 }
 
-/// The log of one process: the generations of its spans of one turn each, and the lines of the last one.
-fn one_process(
+/// Whether it is so of the report with this change behind the script.
+fn holds_behind(
     alloc: Global,
-    target: Mfa,
-    generations: &[u64],
-    lines: LineList,
-    fin: End,
-) -> Result<ProcessLogList, NoMemory> {
-    let mut spans = SpanList::new(alloc);
-    let mut left = generations.len();
-    let mut last = Some(lines);
-    for generation in generations {
-        left = left.saturating_sub(1);
-        let lines = if left == 0 { last.take() } else { None };
-        spans.push(Span {
-            generation: *generation,
-            turns: 1,
-            lines: lines.unwrap_or(LineList::new(alloc)),
-        })?;
-    }
-    let mut processes = ProcessLogList::new(alloc);
-    processes.push(ProcessLog {
-        target,
-        args: TermList::new(alloc),
-        spans,
-        fin,
-    })?;
-    Ok(processes)
+    script: &Script,
+    change: (&str, &str),
+    asked: Asked,
+) -> Result<bool, Fail>
+    requires { IsScript script.now }
+{
+    let log = changed(alloc, &script.names, change.0, change.1)?;
+    is_so(alloc, asked, script, &log)
 }
 
-/// The lines of printed numbers.
-fn printed(alloc: Global, numbers: &[i64]) -> Result<LineList, NoMemory> {
-    let mut lines = LineList::new(alloc);
-    for number in numbers {
-        lines.push(Line::Print(Term::Int(*number)))?;
-    }
-    Ok(lines)
-}
-
-/// Whether the log is lawful. None where the text is no script.
-fn is_lawful(
-    alloc: Global,
-    text: &str,
-    journal: Journal,
-    processes: ProcessLogList,
-) -> Result<Option<bool>, NoMemory> {
-    let Ok(script) = read_script(alloc, text.as_bytes()) else {
-        return Ok(None);
-    };
-    let log = RunLog {
-        journal: journal.entries,
-        processes,
-        observers: ObserverList::new(alloc),
-    };
-    Ok(Some(legal(alloc, &script, &log)?))
-}
-
-/// The clause that the log is found to break, or none where it is lawful. None where the text is no script.
-fn broken(
-    alloc: Global,
-    text: &str,
-    journal: Journal,
-    processes: ProcessLogList,
-) -> Result<Option<Option<Clause>>, NoMemory> {
-    let Ok(script) = read_script(alloc, text.as_bytes()) else {
-        return Ok(None);
-    };
-    let log = RunLog {
-        journal: journal.entries,
-        processes,
-        observers: ObserverList::new(alloc),
-    };
-    match first_breach(alloc, &script, &log)? {
-        Some(breach) => Ok(Some(Some(breach.clause))),
-        None => Ok(Some(None)),
-    }
-}
-
-/// The journal of a process whose code is replaced before the flag is put.
-fn replaced(alloc: Global, main: Mfa) -> Result<Journal, NoMemory> {
-    let mut journal = Journal::new(alloc);
-    journal.loaded(&[(FIRST, 1)], 1)?;
-    journal.spawned(main)?;
-    journal.loaded(&[(FIRST, 2)], 2)?;
-    journal.put(THIRD, Term::Int(1), 3)?;
-    Ok(journal)
+/// The same behind the script's text.
+fn holds(alloc: Global, old: &str, new: &str, asked: Asked) -> Result<bool, Fail> {
+    let script = read_script(alloc, SCRIPT.as_bytes())?;
+    holds_behind(alloc, &script, (old, new), asked)
 }
 
 #[test]
-fn external_calls_go_to_current_code(rt: HostRuntime) -> Result<(), Fail> {
-    let alloc = rt.alloc();
-    let main = function(FIRST, SECOND);
-    let cases: [(&[u64], i64, bool); 3] = [
-        (&[1, 3], 2, true),
-        (&[1, 3], 1, false),
-        (&[3, 1], 2, false),
+fn a_lawful_log_has_each_part(rt: HostRuntime) -> Result<(), Fail> {
+    let parts = [
+        (Asked::Lawful, true),
+        (Asked::Breaks(Clause::Replays), false),
+        (Asked::CommandsInOrder, true),
+        (Asked::SpawnsFirst, true),
+        (Asked::Complete, true),
+        (Asked::SnapshotsFit, true),
+        (Asked::SpansRise, true),
+        (Asked::Kills(2), false),
     ];
-    for (generations, number, is) in cases {
-        let journal = replaced(alloc, main)?;
-        let lines = printed(alloc, &[number])?;
-        let processes = one_process(alloc, main, generations, lines, End::Normal)?;
-        assert!(rt; is_lawful(alloc, REPLACED, journal, processes)? == Some(is));
+    for (asked, expected) in parts {
+        let holds = holds(rt.alloc(), "end report", "end report", asked)?;
+        assert_eq!(rt; holds, expected, "{asked:?}");
     }
     Ok(())
 }
 
 #[test]
-fn the_broken_clause_is_named(rt: HostRuntime) -> Result<(), Fail> {
-    let alloc = rt.alloc();
-    let main = function(FIRST, SECOND);
-    let cases: [(&[u64], Option<Clause>); 3] = [
-        (&[1, 3], None),
-        (&[3, 1], Some(Clause::TurnsFollow)),
-        (&[1, 4], Some(Clause::Complete)),
+fn a_change_breaks_a_part(rt: HostRuntime) -> Result<(), Fail> {
+    let first = "process 0 m:main(1)\nspan 2 1\nend normal\n";
+    let killed = "process 0 m:main(1)\nspan 2 1\nspan 1 1\nend killed 2\n";
+    let second = "process 1 m:main([1])\nspan 2 1\n";
+    let longer = "process 1 m:main([1])\nspan 2 2\n";
+    let changes = [
+        (second, longer, Asked::Lawful),
+        (second, longer, Asked::Breaks(Clause::TurnsFollow)),
+        ("main(1) =", "main(2) =", Asked::CommandsInOrder),
+        ("main(1)\nspan 2", "main(1)\nspan 1", Asked::SpawnsFirst),
+        (
+            "process 1 m:main([1])",
+            "process 1 m:main([2])",
+            Asked::Complete,
+        ),
+        ("snapshot 0", "snapshot 5", Asked::SnapshotsFit),
+        (first, killed, Asked::SpansRise),
+        (first, killed, Asked::Kills(2)),
     ];
-    for (generations, clause) in cases {
-        let journal = replaced(alloc, main)?;
-        let lines = printed(alloc, &[2])?;
-        let processes = one_process(alloc, main, generations, lines, End::Normal)?;
-        assert!(rt; broken(alloc, REPLACED, journal, processes)? == Some(clause));
+    for (old, new, asked) in changes {
+        let expected = matches!(asked, Asked::Breaks(_) | Asked::Kills(_));
+        assert_eq!(rt; holds(rt.alloc(), old, new, asked)?, expected, "{asked:?}");
     }
     Ok(())
 }

@@ -1,17 +1,13 @@
-//! Tests of the logs of runs and of the judge of logs.
+//! Tests of reports, of the logs that they tell, and of the judge of logs.
 #![tactic(auto)]
 
-#[cfg(test)]
-mod entries;
 #[cfg(test)]
 mod exports;
 #[cfg(test)]
 mod judgements;
 #[cfg(test)]
-mod logs;
+mod loaded;
 #[cfg(test)]
-mod shapes;
+mod reports;
 #[cfg(test)]
 mod spans;
-#[cfg(test)]
-mod two_spawns;

@@ -1,12 +1,12 @@
 ghost use Rattle.span_check.specs.Watches.{AreInOrder};
 
-use crate::exports::loaded;
+use crate::loaded::{Look, is_shown};
 use machine_core::{End, Line, LineList};
 use run_log::{ProcessLog, Span, SpanList};
-use script_text::read_script;
 use server_core::Server;
 use span_check::{Standing, Watch, take_spans};
 use std::alloc::Global;
+use std::process::Abort;
 use std::test::Fail;
 use term_core::{AtomId, Mfa, NoMemory, Term, TermList};
 
@@ -36,7 +36,12 @@ fn printed(alloc: Global, number: i64) -> Result<LineList, NoMemory> {
 }
 
 /// Whether the process prints so in two turns under the newest generation, ends as normal, and is where the watches see it.
-fn is_so(alloc: Global, server: &Server, number: i64, watches: &[Watch]) -> Result<bool, NoMemory>
+pub fn is_so(
+    alloc: Global,
+    server: &Server,
+    number: i64,
+    watches: &[Watch],
+) -> Result<bool, NoMemory>
     requires { AreInOrder watches.now }
 {
     let mut spans = SpanList::new(alloc);
@@ -55,24 +60,6 @@ fn is_so(alloc: Global, server: &Server, number: i64, watches: &[Watch]) -> Resu
     take_spans(alloc, server, &log, watches, &mut standing)
 }
 
-/// A server that has loaded the module.
-fn loaded_server(alloc: Global) -> Result<Server, Fail> {
-    let script = read_script(alloc, TWO_TURNS.as_bytes())?;
-    Ok(loaded(alloc, 1, &script.modules)?)
-}
-
-/// Whether the process prints 1 and this number.
-fn follows(alloc: Global, number: i64) -> Result<bool, Fail> {
-    let server = loaded_server(alloc)?;
-    Ok(is_so(alloc, &server, number, &[])?)
-}
-
-/// Whether a frame of the process that prints 1 and 2 is of this instance after so many turns.
-fn stands(alloc: Global, turn: u32, serial: u64) -> Result<bool, Fail> {
-    let server = loaded_server(alloc)?;
-    Ok(is_so(alloc, &server, 2, &[Watch { turn, serial }])?)
-}
-
 #[test]
 fn a_process_stands_before_its_spans_at_first(rt: HostRuntime) -> Result<(), Fail> {
     let alloc = rt.alloc();
@@ -88,18 +75,21 @@ fn a_process_stands_before_its_spans_at_first(rt: HostRuntime) -> Result<(), Fai
     Ok(())
 }
 
-#[test]
-fn turns_are_held_against_a_span(rt: HostRuntime) -> Result<(), Fail> {
-    assert!(rt; follows(rt.alloc(), 2)?);
-    assert!(rt; !follows(rt.alloc(), 3)?);
-    Ok(())
+/// Whether the process prints 1 and this number, and its frame is of the instance after so many turns, if one is told.
+fn follows(rt: &(impl AllocGlobal + Abort), number: i64, stands: Option<(u32, u64)>) -> bool {
+    is_shown(rt, TWO_TURNS, 1, Look::Turns(number, stands))
 }
 
 #[test]
-fn watches_look_after_their_turns(rt: HostRuntime) -> Result<(), Fail> {
-    assert!(rt; stands(rt.alloc(), 1, 1)?);
-    assert!(rt; !stands(rt.alloc(), 2, 1)?);
-    assert!(rt; !stands(rt.alloc(), 0, 1)?);
-    assert!(rt; !stands(rt.alloc(), 1, 2)?);
-    Ok(())
+fn turns_are_held_against_a_span(rt: HostRuntime) {
+    assert!(rt; follows(&rt, 2, None));
+    assert!(rt; !follows(&rt, 3, None));
+}
+
+#[test]
+fn watches_look_after_their_turns(rt: HostRuntime) {
+    assert!(rt; follows(&rt, 2, Some((1, 1))));
+    assert!(rt; !follows(&rt, 2, Some((2, 1))));
+    assert!(rt; !follows(&rt, 2, Some((0, 1))));
+    assert!(rt; !follows(&rt, 2, Some((1, 2))));
 }

@@ -6,8 +6,6 @@ mod delays;
 #[cfg(test)]
 mod ends;
 #[cfg(test)]
-mod event_lists;
-#[cfg(test)]
 mod later;
 #[cfg(test)]
 mod published;
@@ -15,5 +13,3 @@ mod published;
 mod tables;
 #[cfg(test)]
 mod waits;
-#[cfg(test)]
-mod watchers;

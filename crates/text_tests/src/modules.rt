@@ -1,151 +1,48 @@
 use mod_core::*;
+use mod_text::read_module;
 use std::alloc::Global;
-use term_core::{AtomId, ImageFault, Mfa, NoMemory, Term, TermList, WordList};
+use std::test::Fail;
+use term_core::{ImageFault, Names, NoMemory, WordList};
 
-// `module m.1`, `export main/0`, `add 1 2 $0`, `print $0`, with m numbered 3 and main numbered 4.
-fn first_module(alloc: Global) -> Result<Module, NoMemory> {
-    let add = Instr::Add {
-        a: Operand::Const(Term::Int(1)),
-        b: Operand::Const(Term::Int(2)),
-        to: 0,
-    };
-    let print = Instr::Print {
-        value: Operand::Reg(0),
-    };
-    let main = Function {
-        name: AtomId(4),
-        arity: 0,
-        exported: true,
-        code: InstrList::from_vec(Vec::from_array(alloc, [add, print])?),
-    };
-    Ok(Module {
-        name: AtomId(3),
-        version: 1,
-        functions: FunctionList::from_vec(Vec::from_array(alloc, [main])?),
-    })
-}
+// The names of each text are numbered as they appear, from 3 on.
+const FIRST_TEXT: &str = "module m.1
+export main/0
+add 1 2 $0
+print $0
+end
+";
 
-// `module m.2` with each instruction once: `export main/0` and `local last/1`, numbered 4 and 5.
-fn second_module(alloc: Global) -> Result<Module, NoMemory> {
-    let main = Function {
-        name: AtomId(4),
-        arity: 0,
-        exported: true,
-        code: InstrList::from_vec(main_code(alloc)?),
-    };
-    let last = Function {
-        name: AtomId(5),
-        arity: 1,
-        exported: false,
-        code: InstrList::from_vec(last_code(alloc)?),
-    };
-    Ok(Module {
-        name: AtomId(3),
-        version: 2,
-        functions: FunctionList::from_vec(Vec::from_array(alloc, [main, last])?),
-    })
-}
+// Each instruction of integers and calls once.
+const SECOND_TEXT: &str = "module m.2
+export main/0
+move 7 $0
+label again
+sub $0 1 $0
+less 0 $0 again
+eq $0 0 done
+call last/1 $1
+yield
+label done
+local last/1
+label first
+add $0 2 $2
+call_ext e:f/2 $3
+print false
+jump first
+ret $2
+end
+";
 
-// `move 7 $0`, `sub $0 1 $0`, `less 0 $0` to the second, `eq $0 0` to the end, `call last/1 $1`, `yield`.
-fn main_code(alloc: Global) -> Result<Vec<Instr>, NoMemory> {
-    let instrs = [
-        Instr::Move {
-            from: Operand::Const(Term::Int(7)),
-            to: 0,
-        },
-        Instr::Sub {
-            a: Operand::Reg(0),
-            b: Operand::Const(Term::Int(1)),
-            to: 0,
-        },
-        Instr::Less {
-            a: Operand::Const(Term::Int(0)),
-            b: Operand::Reg(0),
-            target: 1,
-        },
-        Instr::Eq {
-            a: Operand::Reg(0),
-            b: Operand::Const(Term::Int(0)),
-            target: 6,
-        },
-        Instr::Call { function: 1, at: 1 },
-        Instr::Yield,
-    ];
-    Ok(Vec::from_array(alloc, instrs)?)
-}
-
-// `add $0 2 $2`, `call_ext e:f/2 $3` with e and f numbered 6 and 7, `print false`, `jump` to the first, `ret $2`.
-fn last_code(alloc: Global) -> Result<Vec<Instr>, NoMemory> {
-    let to = Mfa {
-        module: AtomId(6),
-        name: AtomId(7),
-        arity: 2,
-    };
-    let instrs = [
-        Instr::Add {
-            a: Operand::Reg(0),
-            b: Operand::Const(Term::Int(2)),
-            to: 2,
-        },
-        Instr::CallExt { to, at: 3 },
-        Instr::Print {
-            value: Operand::Const(Term::Atom(AtomId::FALSE)),
-        },
-        Instr::Jump { target: 0 },
-        Instr::Ret {
-            value: Operand::Reg(2),
-        },
-    ];
-    Ok(Vec::from_array(alloc, instrs)?)
-}
-
-// `{ok,[1,-1]}`
-fn pair(alloc: Global) -> Result<Term, NoMemory> {
-    let numbers = TermList::from_vec(Vec::from_array(alloc, [Term::Int(1), Term::Int(-1)])?);
-    let parts = [Term::Atom(AtomId::OK), Term::List(numbers)];
-    Ok(Term::Tuple(TermList::from_vec(Vec::from_array(alloc, parts)?)))
-}
-
-// `module m.1` with `export main/0`: `move {ok,[1,-1]} $0`, `elem 2 $0 $1`, `pget k $2`, `pget_or k [] $3`,
-// `eq {ok,[1,-1]} $0` to the end, with k numbered 5.
-fn third_module(alloc: Global) -> Result<Module, NoMemory> {
-    let instrs = [
-        Instr::Move {
-            from: Operand::Const(pair(alloc)?),
-            to: 0,
-        },
-        Instr::Elem {
-            index: Operand::Const(Term::Int(2)),
-            from: Operand::Reg(0),
-            to: 1,
-        },
-        Instr::Pget {
-            key: AtomId(5),
-            to: 2,
-        },
-        Instr::PgetOr {
-            key: AtomId(5),
-            other: Operand::Const(Term::List(TermList::new(alloc))),
-            to: 3,
-        },
-        Instr::Eq {
-            a: Operand::Const(pair(alloc)?),
-            b: Operand::Reg(0),
-            target: 5,
-        },
-    ];
-    let main = Function {
-        name: AtomId(4),
-        arity: 0,
-        exported: true,
-        code: InstrList::from_vec(Vec::from_array(alloc, instrs)?),
-    };
-    Ok(Module {
-        name: AtomId(3),
-        version: 1,
-        functions: FunctionList::from_vec(Vec::from_array(alloc, [main])?),
-    })
-}
+const THIRD_TEXT: &str = "module m.1
+export main/0
+move {ok,[1,-1]} $0
+elem 2 $0 $1
+pget k $2
+pget_or k [] $3
+eq {ok,[1,-1]} $0 done
+label done
+end
+";
 
 const FIRST: [u64; 16] = [0, 3, 1, 1, 4, 1, 0, 8, 2, 17, 33, 6, 13, 6, 9, 34];
 
@@ -200,6 +97,11 @@ const THIRD: [u64; 39] = [
     18446744073709551601,
 ];
 
+pub fn module_of(alloc: Global, text: &str) -> Result<Module, Fail> {
+    let mut names = Names::new(alloc)?;
+    Ok(read_module(alloc, &mut names, text.as_bytes(), 0)?)
+}
+
 // The image of a module, and no words for what is no module.
 fn image_of(alloc: Global, module: &Module) -> Result<WordList, NoMemory> {
     if validate(module) {
@@ -209,11 +111,34 @@ fn image_of(alloc: Global, module: &Module) -> Result<WordList, NoMemory> {
     }
 }
 
+// Whether a module and its copy have this image.
+fn have_image(alloc: Global, module: &Module, words: &[u64]) -> Result<bool, NoMemory> {
+    if has_image(alloc, module, words)? {
+        has_copied_image(alloc, module, words)
+    } else {
+        Ok(false)
+    }
+}
+
+fn has_copied_image(alloc: Global, module: &Module, words: &[u64]) -> Result<bool, NoMemory> {
+    let copy = module.copy(alloc)?;
+    has_image(alloc, &copy, words)
+}
+
+fn has_image(alloc: Global, module: &Module, words: &[u64]) -> Result<bool, NoMemory> {
+    Ok(image_of(alloc, module)?.as_slice() == words)
+}
+
+// Whether what a text is read as, and a copy of it, have this image.
+fn reads_with_image(alloc: Global, text: &str, words: &[u64]) -> Result<bool, Fail> {
+    let module = module_of(alloc, text)?;
+    Ok(have_image(alloc, &module, words)?)
+}
+
 // Whether the words are read as a module with this image.
 fn reads_as(alloc: Global, words: &[u64], image: &[u64]) -> Result<bool, ImageFault> {
     let module = decode(alloc, words)?;
-    let again = image_of(alloc, &module)?;
-    Ok(again.as_slice() == image)
+    Ok(has_image(alloc, &module, image)?)
 }
 
 // Whether the words, with another one at a place, are the image of no module.
@@ -230,16 +155,16 @@ fn is_bad(alloc: Global, words: &[u64], at: usize, other: u64) -> Result<bool, N
 }
 
 #[test]
-fn an_image_has_heads_and_code_and_constants(rt: HostRuntime) {
-    let first = first_module(rt.alloc()).expect(&rt, "a module");
-    let image = image_of(rt.alloc(), &first).expect(&rt, "an image");
-    assert!(rt; image.as_slice() == FIRST.as_slice());
-    let second = second_module(rt.alloc()).expect(&rt, "a module");
-    let image = image_of(rt.alloc(), &second).expect(&rt, "an image");
-    assert!(rt; image.as_slice() == SECOND.as_slice());
-    let third = third_module(rt.alloc()).expect(&rt, "a module");
-    let image = image_of(rt.alloc(), &third).expect(&rt, "an image");
-    assert!(rt; image.as_slice() == THIRD.as_slice());
+fn an_image_has_heads_and_code_and_constants(rt: HostRuntime) -> Result<(), Fail> {
+    let cases = [
+        (FIRST_TEXT, FIRST.as_slice()),
+        (SECOND_TEXT, SECOND.as_slice()),
+        (THIRD_TEXT, THIRD.as_slice()),
+    ];
+    for (text, words) in cases {
+        assert!(rt; reads_with_image(rt.alloc(), text, words)?, "at {text}");
+    }
+    Ok(())
 }
 
 #[test]
@@ -271,12 +196,4 @@ fn other_words_are_no_image(rt: HostRuntime) {
         let bad = is_bad(rt.alloc(), &THIRD, at, word).expect(&rt, "an answer");
         assert!(rt; bad);
     }
-}
-
-#[test]
-fn a_copy_has_the_same_image(rt: HostRuntime) {
-    let module = third_module(rt.alloc()).expect(&rt, "a module");
-    let copy = module.copy(rt.alloc()).expect(&rt, "a copy");
-    let image = image_of(rt.alloc(), &copy).expect(&rt, "an image");
-    assert!(rt; image.as_slice() == THIRD.as_slice());
 }

