@@ -247,6 +247,8 @@ def changes_of_a_lawful_report():
         ("process_with_another_argument", "process 1 m:main([1])", "process 1 m:main([2])"),
         ("turns_of_falling_generations", first, first + "span 1 1\n"),
         ("first_turn_before_its_spawn", first, "process 0 m:main(1)\nspan 1 1\n"),
+        ("first_turn_before_all_entries", first, "process 0 m:main(1)\nspan 0 1\n"),
+        ("first_turn_of_the_other_before_its_spawn", "process 1 m:main([1])\nspan 2 1", "process 1 m:main([1])\nspan 1 1"),
         ("third_snapshot_of_two", shot, shot + shot),
     ):
         yield is_judged(name, text, changed(told, old, new), False)
@@ -294,6 +296,33 @@ def between_the_halves_of_a_purge():
         release = "entry rt release 1 = ok -\n"
         if yes:
             yield is_judged("release_twice", text, changed(told, release, release + release), False)
+
+
+def kills_of_two_purges():
+    """The first purge kills two processes, the second one another: each tells the instance in whose code it stood."""
+    endless = "export main/0\nlabel a\nyield\njump a\nend\n"
+    text = script(
+        f"module m.1\n{endless}module m.2\nend\nmodule n.1\n{endless}module n.2\nend\nloader\nload m.1 n.1\n"
+        "spawn m:main()\nspawn n:main()\nspawn m:main()\nload m.2 n.2\npurge m\npurge n\n"
+    )
+    told = report(
+        6,
+        "entry L0 load m.1 n.1 = ok @1\nentry L0 spawn m:main() = ok -\nentry L0 spawn n:main() = ok -\n"
+        "entry L0 spawn m:main() = ok -\nentry L0 load m.2 n.2 = ok @2\nentry L0 doom m = ok @3\n"
+        "entry L0 purge m = true @4\nentry rt release 1 = ok -\nentry L0 doom n = ok @5\nentry L0 purge n = true @6\n"
+        "entry rt release 2 = ok -\n"
+        "process 0 m:main()\nspan 1 1\nspan 3 1\nend killed 1\n"
+        "process 1 n:main()\nspan 1 1\nspan 5 1\nend killed 2\n"
+        "process 2 m:main()\nspan 1 2\nspan 3 1\nend killed 1\n",
+    )
+    yield is_judged("each_by_its_own", text, told, True)
+    for name, old, new in (
+        ("second_by_the_first", "end killed 2", "end killed 1"),
+        ("second_by_none", "end killed 2", "end killed 3"),
+        ("first_tells_of_none", "purge m = true", "purge m = false"),
+        ("second_tells_of_none", "purge n = true", "purge n = false"),
+    ):
+        yield is_judged(name, text, changed(told, old, new), False)
 
 
 def counted_turns():
@@ -354,6 +383,7 @@ GROUPS = (
     changes_of_a_lawful_report,
     every_reply_with_every_command,
     between_the_halves_of_a_purge,
+    kills_of_two_purges,
     counted_turns,
     made_scripts,
     trials,
