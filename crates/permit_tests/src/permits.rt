@@ -192,6 +192,7 @@ fn over_run<K: Naming, N: RunName>(
     requires rest { AreAtRest K.names empty_state tables }
     requires opening { (written_by tables.writer).published ≡ opening_published ∷ [] }
     requires notes { (written_by tables.writer).notes ≡ [] }
+    requires drops { (written_by tables.writer).looks.dropped ≡ [] }
     requires begun { IsMemberBegun shared.now.table.shared.table_id 0 leader.old }
 {
     let mut permit = Permit::<K, N>::new(alloc, script, tables)?;

@@ -227,4 +227,5 @@ keeps_release serial pools before after area own may is stored =
       published = ap (λ (w : WriterView). w.published) (stored ∙ told.same);
       notes = ap (λ (w : WriterView). w.notes) (stored ∙ told.same);
       waits = waits_same before after (ap (λ (w : WriterView). w.pairs) (stored ∙ told.same));
+      pairs = ap (λ (w : WriterView). w.pairs) (stored ∙ told.same);
     }

@@ -18,7 +18,7 @@ module _ (names : List Mfa) (old mid new : Tables) (serial : ℕ) where
 
 -- the drop is kept, as none of the words that were cleared is one of a look
 drop_words : (serial : ℕ) (old : WriterView) (words : List ℕ) (new : WriterView) → KeepsRelease serial (record old { words = words }) new → KeepsRelease serial old new
-drop_words serial old words new kept = record { looks = kept.looks; published = kept.published; notes = kept.notes; waits = kept.waits }
+drop_words serial old words new kept = record { looks = kept.looks; published = kept.published; notes = kept.notes; waits = kept.waits; pairs = kept.pairs }
 
 pub drop_whole : (serial : ℕ) (old mid new : WriterView) → IsSameButWords old mid → KeepsRelease serial mid new → KeepsRelease serial old new
 drop_whole serial old mid new same kept = drop_words serial old mid.words new (subst (λ (w : WriterView). KeepsRelease serial w new) same kept)

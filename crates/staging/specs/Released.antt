@@ -71,3 +71,5 @@ pub record KeepsRelease (serial : ℕ) (before after : WriterView) : Type 0 wher
   pub published : after.published ≡ before.published
   pub notes : after.notes ≡ before.notes
   pub waits : KeepsWaits before after
+  -- and no value was taken to wait for
+  pub pairs : after.pairs ≡ before.pairs

@@ -1,5 +1,5 @@
 -- What the calls that store no word leave of a permit's book.
-use Rattle.std.proofs.Common.{◌≡◌, ℕ, zero, suc, false, true, List, [], ◌∷◌, ◌++◌, slice_get, Option, Some, None, is_some, IfSome, IsSomeAnd, All, if◌then◌else◌, option_and_then, refl, sym, ap, subst, ◌∙◌}
+use Rattle.std.proofs.Common.{◌≡◌, ℕ, zero, suc, ◌⊎◌, inl, inr, false, true, List, [], ◌∷◌, ◌++◌, slice_get, Option, Some, None, is_some, IfSome, IsSomeAnd, All, if◌then◌else◌, option_and_then, refl, sym, ap, subst, ◌∙◌}
 use Rattle.std.proofs.lemmas.Bool.{eq-eqb, false≢true}
 use Rattle.std.proofs.lemmas.Option.{none-some, same_Some}
 use Rattle.atomic_table.specs.Seated.{TableId}
@@ -8,6 +8,7 @@ use Rattle.mod_core.specs.declared.code.Module.{Module}
 use Rattle.area_core.specs.declared.table.Published.{Published}
 use Rattle.area_core.specs.Step.{opening_published}
 use Rattle.shared_words.specs.declared.opening.Opening.{Opening}
+use Rattle.shared_words.specs.declared.view.NoteNumber.{NoteNumber}
 use Rattle.shared_words.specs.Notes.{MaySplitNote}
 use Rattle.progress_words.specs.Tokens.{written_by}
 use Rattle.change_laws.specs.Names.{IsNumbered}
@@ -20,6 +21,7 @@ use Rattle.server_core.specs.Decided.{Fits, change_made}
 use Rattle.server_core.specs.ServerState.{empty_state, old_of}
 use Rattle.script_core.specs.declared.script.Script.{Script}
 use Rattle.script_core.specs.declared.script.ScriptCmd.{ScriptCmd}
+use Rattle.script_core.specs.Processes.{spawn_number}
 use Rattle.script_core.specs.declared.script.ScriptCmd.TheVariants.{CheckOld, Spawn}
 use Rattle.run_log.specs.declared.logs.Entry.{Entry}
 use Rattle.run_log.specs.declared.logs.Who.TheVariants.{Loader}
@@ -30,8 +32,6 @@ use Rattle.run_log.proofs.SpanRuns.{some_and}
 use Rattle.staging.specs.declared.tables.Tables.{Tables}
 use Rattle.staging.specs.Stages.{AreAtRest, StageStands}
 use Rattle.staging.specs.Whose.{AreTablesOf}
-use Rattle.write_permit.specs.declared.answers.AtOnce.{AtOnce}
-use Rattle.write_permit.specs.declared.spawned.Spawned as plains
 use Rattle.write_permit.specs.declared.book.Book.{Book}
 use Rattle.write_permit.specs.declared.holder.Holder.TheVariants.{Free, Held}
 use Rattle.write_permit.specs.Book.{HoldsJust, IsBook, IsLog, IsPermit, shown}
@@ -41,17 +41,17 @@ use Rattle.word_permit.specs.declared.book.AreaNeed.{AreaNeed}
 use Rattle.word_permit.specs.declared.book.Decision.{Decision}
 use Rattle.word_permit.specs.declared.book.Waiting.{Waiting}
 use Rattle.word_permit.specs.declared.book.WordBook.{WordBook}
-use Rattle.word_permit.specs.Books.{HasItsTables, IsKept, IsWordBook, JoinsUnpublished, StageGoesOn, TellsNone}
+use Rattle.word_permit.specs.Answers.{AnswersAgree}
+use Rattle.word_permit.specs.Books.{HasTablesWith, IsKept, IsWordBook, JoinsQuietly, JoinsUnpublished, StageGoesOn, TellsNone}
 use Rattle.word_permit.specs.Looks.{IsLookTaken}
 use Rattle.word_permit.specs.Needs.{IsAwaited}
-use Rattle.word_permit.specs.Notes.{AreOfSpawned, IsSpawnedIn}
-use Rattle.run_law.specs.Answers.{AreAnswersKept}
+use Rattle.word_permit.specs.Notes.{AreOfSpawned, AreThoseSpawned, HasNoteIn, IsSpawnedIn}
 use Rattle.run_law.specs.Published.{ArePublished, shown_at}
 use Rattle.word_permit.specs.Waiting.{IsDecided, RestsBy, WordsStand}
-use Rattle.word_permit.proofs.Answered.{answered_first, answered_quietly}
+use Rattle.word_permit.proofs.Answered.{agree_first, agree_quietly}
 use Rattle.word_permit.proofs.Growing.{published_same}
 use Rattle.word_permit.proofs.Resting.{IsNoTrace, free_no_trace, rest_by, rests_by}
-use Rattle.word_permit.proofs.SpawnedBefore.{if_spawned, may_split, notes_later, spawned_now}
+use Rattle.word_permit.proofs.SpawnedBefore.{SpawnsNext, SpawnsNow, done_many, if_spawned, may_split, none_spawned, notes_later, spawned_by_entry, spawned_now, spawned_number, spawns_next, those_later}
 
 -- ---- the first book
 
@@ -73,16 +73,16 @@ pub no_look : (b : WordBook) → b.look ≡ None → IfSome b.look (IsLookTaken 
 no_look b none = subst (λ (o : Option ℕ). IfSome o (IsLookTaken (written_by b.tables.writer))) (sym none) tt
 
 pub begun_word_book : (names : List Mfa) (table : TableId) (command_opening : Opening) (b : WordBook) → IsBook b.plain → All (IsNumbered names) b.plain.script.modules → AreTablesOf table command_opening b.tables → b.tables.exports ≡ names → b.plain.journal ≡ []
-    → b.plain.server ≡ empty_state → b.plain.holder ≡ Free → (written_by b.tables.writer).published ≡ opening_published ∷ [] → (written_by b.tables.writer).notes ≡ [] → AreAtRest names empty_state b.tables → b.waiting ≡ None → b.need ≡ None → b.look ≡ None → IsWordBook names table command_opening b
-begun_word_book names table command_opening b book texts tables exports journal server free published notes rest none needs look = record {
+    → b.plain.server ≡ empty_state → b.plain.holder ≡ Free → (written_by b.tables.writer).published ≡ opening_published ∷ [] → (written_by b.tables.writer).notes ≡ [] → (written_by b.tables.writer).looks.dropped ≡ [] → AreAtRest names empty_state b.tables → b.waiting ≡ None → b.need ≡ None → b.look ≡ None → IsWordBook names table command_opening b
+begun_word_book names table command_opening b book texts tables exports journal server free published notes drops rest none needs look = record {
   has = record {
     book = book;
     texts = texts;
     tables = tables;
     exports = exports;
     published = published_first names b.plain.script.modules b.plain.journal (written_by b.tables.writer).published journal published;
-    notes = subst (AreOfSpawned b.plain.script b.plain.journal) (sym notes) (λ n among. absurd (none-some n among.1));
-    answered = answered_first b.plain.script.modules b.plain.journal (written_by b.tables.writer).looks journal;
+    notes = subst (AreThoseSpawned b.plain.script b.plain.journal) (sym notes) (record { of = λ n among. absurd (none-some n among.1); each = λ process h. absurd (none_spawned b.plain.script b.plain.journal process journal h) });
+    answered = agree_first b.plain.script.modules b.plain.journal (written_by b.tables.writer).looks journal drops;
     awaited = subst (λ (o : Option AreaNeed). IfSome o (IsAwaited (written_by b.tables.writer))) (sym needs) tt;
   };
   words = subst (WordsStand names (shown b.plain) b.tables) (sym none) (rests_by names b.plain.holder b.plain.server b.tables (free_no_trace b.plain.holder free) (subst (λ s. AreAtRest names s b.tables) (sym server) rest));
@@ -140,8 +140,9 @@ pub record LeftAtOnce (p : PermitState) (who : ℕ) (command : ScriptCmd) (q : P
   pub script : q.script ≡ p.script
   pub server : q.server ≡ p.server
   pub holder : q.holder ≡ p.holder
-  pub journal : JoinsUnpublished p.journal q.journal
+  pub journal : JoinsQuietly p.journal q.journal
   pub commands : commands_in who q.journal ≡ commands_in who p.journal ++ command ∷ []
+  pub spawns : (process : ℕ) → IsSpawnedIn q.script q.journal process → IsSpawnedIn p.script p.journal process ⊎ SpawnsNext p.script p.journal who command process
   pub next : (by : ℕ) → (by ≡ who → ⊥) → next_of q by ≡ next_of p by
 
 module _ (p : PermitState) (known : IsPermit p) (who : ℕ) (q : PermitState) (answer : Applied) where
@@ -152,11 +153,16 @@ module _ (p : PermitState) (known : IsPermit p) (who : ℕ) (q : PermitState) (a
     holder = refl;
     journal = (entry, (refl, (none, quiet)));
     commands = commands_own who p.journal entry (eq-eqb who who refl) ∙ ap (λ commands. commands_in who p.journal ++ commands) ends;
+    spawns = λ process h. by_entry process (spawned_by_entry p.script p.journal entry process h);
     next = λ by n. next_kept p known who command next (joined p (Loader who) cmd o) refl by n;
   }
     where
       entry : Entry
       entry = record { who = Loader who; cmd = cmd; reply = o.answer.reply; published = o.answer.published }
+
+      by_entry : (process : ℕ) → IsSpawnedIn p.script p.journal process ⊎ SpawnsNow p.script p.journal entry process → IsSpawnedIn p.script p.journal process ⊎ SpawnsNext p.script p.journal who command process
+      by_entry process (inl was) = inl was
+      by_entry process (inr now) = inr (spawns_next p.script p.journal entry who command process refl ends now)
 
   -- the state that is told is this one
   left_as : (command : ScriptCmd) (x y : PermitStep) → LeftAtOnce p who command x.state → Some x ≡ Some y → LeftAtOnce p who command y.state
@@ -198,37 +204,49 @@ pub counts_none : (e : Entry) → e.published ≡ None → publishes e ≡ 0
 counts_none e none = ap (λ yes. if yes then 1 else 0) (ap (λ (o : Option ℕ). is_some o) none)
 
 -- a book to which an entry joined that publishes nothing, while the words stay
-pub has_joined : (names : List Mfa) (table : TableId) (command_opening : Opening) (b c : WordBook) → HasItsTables names table command_opening b → IsBook c.plain → c.plain.script ≡ b.plain.script → JoinsUnpublished b.plain.journal c.plain.journal → c.tables ≡ b.tables → c.need ≡ b.need → HasItsTables names table command_opening c
-has_joined names table command_opening b c had book script journal tables need = record {
+pub has_joined : (names : List Mfa) (table : TableId) (command_opening : Opening) (b c : WordBook) (Before After : Type 0) → HasTablesWith names table command_opening Before b → After → IsBook c.plain → c.plain.script ≡ b.plain.script → JoinsQuietly b.plain.journal c.plain.journal → c.tables ≡ b.tables → c.need ≡ b.need
+    → HasTablesWith names table command_opening After c
+has_joined names table command_opening b c Before After had after book script journal tables need = record {
   book = book;
   texts = subst (λ (x : Script). All (IsNumbered names) x.modules) (sym script) had.texts;
   tables = subst (AreTablesOf table command_opening) (sym tables) had.tables;
   exports = ap (λ (x : Tables). x.exports) tables ∙ had.exports;
-  notes = subst (λ (x : Tables). AreOfSpawned c.plain.script c.plain.journal (written_by x.writer).notes) (sym tables)
-      (subst (λ (x : Script). AreOfSpawned x c.plain.journal (written_by b.tables.writer).notes) (sym script)
-      (subst (λ js. AreOfSpawned b.plain.script js (written_by b.tables.writer).notes) (sym journal.1.0)
-      (notes_later b.plain.script b.plain.journal journal.0 (written_by b.tables.writer).notes had.notes)));
+  notes = after;
   awaited = subst (λ (o : Option AreaNeed). IfSome o (IsAwaited (written_by c.tables.writer))) (sym need) (subst (λ (x : Tables). IfSome b.need (IsAwaited (written_by x.writer))) (sym tables) had.awaited);
-  answered = subst (λ (x : Tables). AreAnswersKept c.plain.script.modules c.plain.journal (written_by x.writer).looks) (sym tables)
-      (subst (λ (x : Script). AreAnswersKept x.modules c.plain.journal (written_by b.tables.writer).looks) (sym script)
-      (subst (λ js. AreAnswersKept b.plain.script.modules js (written_by b.tables.writer).looks) (sym journal.1.0)
-      (answered_quietly b.plain.script.modules b.plain.journal journal.0 (written_by b.tables.writer).looks had.answered journal.1.1.1)));
+  answered = subst (λ (x : Tables). AnswersAgree c.plain.script.modules c.plain.journal (written_by x.writer).looks) (sym tables)
+      (subst (λ (x : Script). AnswersAgree x.modules c.plain.journal (written_by b.tables.writer).looks) (sym script)
+      (subst (λ js. AnswersAgree b.plain.script.modules js (written_by b.tables.writer).looks) (sym journal.1.0)
+      (agree_quietly b.plain.script.modules b.plain.journal journal.0 (written_by b.tables.writer).looks had.answered journal.1.1.1)));
   published = subst (λ (x : Tables). ArePublished names c.plain.script.modules c.plain.journal (written_by x.writer).published) (sym tables)
       (subst (λ (x : Script). ArePublished names x.modules c.plain.journal (written_by b.tables.writer).published) (sym script)
       (subst (λ js. ArePublished names b.plain.script.modules js (written_by b.tables.writer).published) (sym journal.1.0)
       (published_same names b.plain.script.modules b.plain.journal journal.0 had.book.permit.log.replays (written_by b.tables.writer).published had.published (counts_none journal.0 journal.1.1.0))));
 }
 
-pub kept_at_once : (b : WordBook) (plain : Book) (who : ℕ) (command : ScriptCmd) → next_of (shown b.plain) who ≡ Some command → needs_permission command ≡ false → IsBook b.plain → IsBook plain → LeftAtOnce (shown b.plain) who command (shown plain)
-    → IsKept b (record b { plain = plain })
-kept_at_once b plain who command next free known book left = record {
-  tables = refl;
-  script = left.script;
-  book = λ names table command_opening k. record {
-    has = has_joined names table command_opening b (record b { plain = plain }) k.has book left.script left.journal refl refl;
-    words = words_at_once names (shown b.plain) (shown plain) who command b.tables b.waiting known.permit.holds next free left k.words;
-    looked = k.looked;
-  };
+-- its notes are those of the processes that were spawned
+pub those_joined : (b : WordBook) (plain : Book) → AreThoseSpawned b.plain.script b.plain.journal (written_by b.tables.writer).notes → plain.script ≡ b.plain.script → JoinsUnpublished b.plain.journal plain.journal → AreThoseSpawned plain.script plain.journal (written_by b.tables.writer).notes
+those_joined b plain had script journal =
+    subst (λ (x : Script). AreThoseSpawned x plain.journal (written_by b.tables.writer).notes) (sym script)
+    (subst (λ js. AreThoseSpawned b.plain.script js (written_by b.tables.writer).notes) (sym journal.1.0) (those_later b.plain.script b.plain.journal journal.0 (written_by b.tables.writer).notes journal.1.1.1.1 had))
+
+pub joins_quietly : (old new : List Entry) → JoinsUnpublished old new → JoinsQuietly old new
+joins_quietly old new h = (h.0, (h.1.0, (h.1.1.0, h.1.1.1.0)))
+
+-- a book that stands, of whose notes this is known
+pub record StandsWith (names : List Mfa) (table : TableId) (command_opening : Opening) (Notes : Type 0) (b : WordBook) : Type 0 where
+  pub has : HasTablesWith names table command_opening Notes b
+  pub words : WordsStand names (shown b.plain) b.tables b.waiting
+  pub looked : IfSome b.look (IsLookTaken (written_by b.tables.writer))
+
+stands_at_once : (names : List Mfa) (table : TableId) (command_opening : Opening) (b : WordBook) (plain : Book) (who : ℕ) (command : ScriptCmd) → IsWordBook names table command_opening b → next_of (shown b.plain) who ≡ Some command → needs_permission command ≡ false → IsBook plain
+    → LeftAtOnce (shown b.plain) who command (shown plain) → StandsWith names table command_opening (AreOfSpawned plain.script plain.journal (written_by b.tables.writer).notes) (record b { plain = plain })
+stands_at_once names table command_opening b plain who command k next free book left = record {
+  has = has_joined names table command_opening b (record b { plain = plain }) _ _ k.has
+      (subst (λ (x : Script). AreOfSpawned x plain.journal (written_by b.tables.writer).notes) (sym left.script)
+      (subst (λ js. AreOfSpawned b.plain.script js (written_by b.tables.writer).notes) (sym left.journal.1.0) (notes_later b.plain.script b.plain.journal left.journal.0 (written_by b.tables.writer).notes k.has.notes.of)))
+      book left.script left.journal refl refl;
+  words = words_at_once names (shown b.plain) (shown plain) who command b.tables b.waiting k.has.book.permit.holds next free left k.words;
+  looked = k.looked;
 }
 
 -- a book that is as it was is kept
@@ -247,8 +265,8 @@ kept_shown b plain book same = record {
       tables = known.has.tables;
       exports = known.has.exports;
       published = subst (λ (x : PermitState). ArePublished names x.script.modules x.journal (written_by b.tables.writer).published) (sym same) known.has.published;
-      notes = subst (λ (x : PermitState). AreOfSpawned x.script x.journal (written_by b.tables.writer).notes) (sym same) known.has.notes;
-      answered = subst (λ (x : PermitState). AreAnswersKept x.script.modules x.journal (written_by b.tables.writer).looks) (sym same) known.has.answered;
+      notes = subst (λ (x : PermitState). AreThoseSpawned x.script x.journal (written_by b.tables.writer).notes) (sym same) known.has.notes;
+      answered = subst (λ (x : PermitState). AnswersAgree x.script.modules x.journal (written_by b.tables.writer).looks) (sym same) known.has.answered;
       awaited = known.has.awaited;
     };
     words = subst (λ (x : PermitState). WordsStand names x b.tables b.waiting) (sym same) known.words;
@@ -256,26 +274,38 @@ kept_shown b plain book same = record {
   };
 }
 
--- what a command leaves that is made at once, before the note of its process is split
-pub record MadeAtOnce (names : List Mfa) (table : TableId) (command_opening : Opening) (b : WordBook) (plain : Book) (change_made : Option plains.Spawned) : Type 0 where
-  pub script : plain.script ≡ b.plain.script
-  pub book : IsWordBook names table command_opening (record b { plain = plain })
-  pub may : IfSome change_made (λ (s : plains.Spawned). MaySplitNote (written_by b.tables.writer) s.process)
-  pub spawned : IfSome change_made (λ (s : plains.Spawned). IsSpawnedIn plain.script plain.journal s.process)
+-- each process that was spawned has its note, but for the one that is spawned now
+others_noted : (p : PermitState) (known : IsPermit p) (who : ℕ) (command : ScriptCmd) (q : PermitState) (notes : List NoteNumber) (told : Option ℕ) → next_of p who ≡ Some command → LeftAtOnce p who command q → spawned_by p who (Some command) ≡ told
+    → ((process : ℕ) → IsSpawnedIn p.script p.journal process → HasNoteIn notes process) → (process : ℕ) → IsSpawnedIn q.script q.journal process → HasNoteIn notes process ⊎ (told ≡ Some process)
+others_noted p known who command q notes told next left is each process h = by (left.spawns process h)
+  where
+    by : IsSpawnedIn p.script p.journal process ⊎ SpawnsNext p.script p.journal who command process → HasNoteIn notes process ⊎ (told ≡ Some process)
+    by (inl was) = inl (each process was)
+    by (inr now) =
+        inr (sym is ∙ spawned_number p who command now.spawns ∙ ap (λ n. Some (spawn_number p.script.loaders who n)) (sym (done_many p known who command next now.spawns)) ∙ ap Some (sym now.number))
 
-pub made_at_once : (names : List Mfa) (table : TableId) (command_opening : Opening) (b : WordBook) (plain : Book) (who : ℕ) (a : AtOnce) → IsWordBook names table command_opening b → IsSomeAnd (next_of (shown b.plain) who) (λ command. needs_permission command ≡ false) → IsBook plain
-    → at_once_of (shown b.plain) who ≡ Some (record { state = shown plain; answer = a.applied }) → a.spawned ≡ spawned_by (shown b.plain) who (next_of (shown b.plain) who) → MadeAtOnce names table command_opening b plain a.spawned
+-- what a command leaves that is made at once, before the note of its process is split
+pub record MadeAtOnce (names : List Mfa) (table : TableId) (command_opening : Opening) (b : WordBook) (plain : Book) (change_made : Option ℕ) : Type 0 where
+  pub script : plain.script ≡ b.plain.script
+  pub book : StandsWith names table command_opening (AreOfSpawned plain.script plain.journal (written_by b.tables.writer).notes) (record b { plain = plain })
+  -- each process that was spawned has its note, but for this one
+  pub others : (process : ℕ) → IsSpawnedIn plain.script plain.journal process → HasNoteIn (written_by b.tables.writer).notes process ⊎ (change_made ≡ Some process)
+  pub may : IfSome change_made (MaySplitNote (written_by b.tables.writer))
+  pub spawned : IfSome change_made (IsSpawnedIn plain.script plain.journal)
+
+pub made_at_once : (names : List Mfa) (table : TableId) (command_opening : Opening) (b : WordBook) (plain : Book) (who : ℕ) (a : Applied × Option ℕ) → IsWordBook names table command_opening b → IsSomeAnd (next_of (shown b.plain) who) (λ command. needs_permission command ≡ false) → IsBook plain
+    → at_once_of (shown b.plain) who ≡ Some (record { state = shown plain; answer = a.0 }) → a.1 ≡ spawned_by (shown b.plain) who (next_of (shown b.plain) who) → MadeAtOnce names table command_opening b plain a.1
 made_at_once names table command_opening b plain who a known next book made_is told =
     let d = some_and (next_of (shown b.plain) who) (λ command. needs_permission command ≡ false) next in
     let permit : IsPermit (shown b.plain) = known.has.book.permit in
-    let left = left_at_once (shown b.plain) permit who (shown plain) a.applied d.0 d.1.0 d.1.1 made_is in
-    let kept = kept_at_once b plain who d.0 d.1.0 d.1.1 known.has.book book left in
-    let is : spawned_by (shown b.plain) who (Some d.0) ≡ a.spawned = ap (spawned_by (shown b.plain) who) (sym d.1.0) ∙ sym told in
+    let left = left_at_once (shown b.plain) permit who (shown plain) a.0 d.0 d.1.0 d.1.1 made_is in
+    let is : spawned_by (shown b.plain) who (Some d.0) ≡ a.1 = ap (spawned_by (shown b.plain) who) (sym d.1.0) ∙ sym told in
     record {
       script = left.script;
-      book = kept.book names table command_opening known;
-      may = subst (λ o. IfSome o (λ (s : plains.Spawned). MaySplitNote (written_by b.tables.writer) s.process)) is
-          (if_spawned (shown b.plain) who d.0 (MaySplitNote (written_by b.tables.writer)) (λ spawns. may_split (shown b.plain) permit who d.0 d.1.0 spawns (written_by b.tables.writer) known.has.notes));
-      spawned = subst (λ o. IfSome o (λ (s : plains.Spawned). IsSpawnedIn plain.script plain.journal s.process)) is
+      book = stands_at_once names table command_opening b plain who d.0 known d.1.0 d.1.1 book left;
+      others = others_noted (shown b.plain) permit who d.0 (shown plain) (written_by b.tables.writer).notes a.1 d.1.0 left is known.has.notes.each;
+      may = subst (λ o. IfSome o (MaySplitNote (written_by b.tables.writer))) is
+          (if_spawned (shown b.plain) who d.0 (MaySplitNote (written_by b.tables.writer)) (λ spawns. may_split (shown b.plain) permit who d.0 d.1.0 spawns (written_by b.tables.writer) known.has.notes.of));
+      spawned = subst (λ o. IfSome o (IsSpawnedIn plain.script plain.journal)) is
           (if_spawned (shown b.plain) who d.0 (IsSpawnedIn plain.script plain.journal) (λ spawns. spawned_now (shown b.plain) permit who d.0 d.1.0 spawns (shown plain) left.script left.commands));
     }

@@ -1,5 +1,6 @@
 -- A command of the server that publishes is made: what the book keeps then, and how far its loader is.
-use Rattle.std.proofs.Common.{◌≡◌, ℕ, suc, ◌≤◌, true, List, [], ◌∷◌, ◌++◌, slice_get, Option, Some, None, is_some, IfSome, IsSomeAnd, IfOk, Result, Ok, Err, All, option_map, option_and_then, if◌then◌else◌, refl, sym, ap, subst, ◌∙◌, arith}
+use Rattle.std.proofs.Common.{◌≡◌, ℕ, suc, ◌≤◌, ◌⊎◌, true, List, [], ◌∷◌, ◌++◌, slice_get, Option, Some, None, is_some, IfSome, IsSomeAnd, IfOk, Result, Ok, Err, All, option_map, option_and_then, if◌then◌else◌, refl, sym, ap, subst, ◌∙◌, arith}
+use Rattle.std.proofs.lemmas.Bool.{false≢true}
 use Rattle.std.proofs.lemmas.Option.{none-some, same_Some}
 use Rattle.atomic_table.specs.Seated.{TableId}
 use Rattle.term_core.specs.declared.atom.AtomId.{AtomId}
@@ -8,6 +9,7 @@ use Rattle.term_core.specs.declared.no_memory.NoMemory.{NoMemory}
 use Rattle.mod_core.specs.declared.code.Module.{Module}
 use Rattle.area_core.specs.declared.table.Published.{Published}
 use Rattle.area_core.specs.Blocks.{Among}
+use Rattle.marks.specs.declared.kept.DroppedArea.{DroppedArea}
 use Rattle.marks.specs.declared.kept.LookKind.TheVariants.{Frame}
 use Rattle.marks.specs.declared.kept.WriterKept.{WriterKept}
 use Rattle.marks.specs.Steps.{with_drop_kept}
@@ -37,17 +39,15 @@ use Rattle.module_table.specs.Modules.{Modules}
 use Rattle.staging.specs.declared.tables.Tables.{Tables}
 use Rattle.staging.specs.Renewed.{IsClearOf, IsRenewal, KeepsDrop}
 use Rattle.staging.specs.Whose.{AreTablesOf, KeepsWaits}
-use Rattle.run_law.specs.Answers.{AreAnswersKept, IsAnswerKept}
+use Rattle.run_law.specs.Answers.{IsAnswerKept}
 use Rattle.run_law.specs.Published.{ArePublished}
-use Rattle.write_permit.specs.declared.answers.OpStep.{OpStep}
-use Rattle.write_permit.specs.declared.answers.OpStep.TheVariants as steps
 use Rattle.write_permit.specs.declared.book.Book.{Book}
 use Rattle.write_permit.specs.declared.commands.OldCode.{OldCode}
 use Rattle.write_permit.specs.declared.holder.Holder.TheVariants.{Free, Held, Purging}
 use Rattle.write_permit.specs.declared.loader_run.LoaderRun.{LoaderRun}
 use Rattle.write_permit.specs.Agreement.{AgreesWithServer, CanFollowNewest, new_modules, newest_followed, newest_of}
 use Rattle.write_permit.specs.Book.{IsBook, shown}
-use Rattle.write_permit.specs.Permit.{Advanced, PermitState, PermitStep, counted_in, done_of, command_ended, entered_by, freed, holder_of, joined, loader_after, made_of, next_of}
+use Rattle.write_permit.specs.Permit.{PermitState, PermitStep, counted_in, done_of, command_ended, entered_by, freed, holder_of, joined, loader_after, made_of, next_of}
 use Rattle.write_permit.proofs.Agreement.{NewestFollows, newest_follows}
 use Rattle.write_permit.proofs.EndBooks.{DoomMade, EndMade, doom_left, end_made}
 use Rattle.write_permit.proofs.Entered.{counted_grows}
@@ -55,18 +55,19 @@ use Rattle.write_permit.proofs.Logs.{server_joined}
 use Rattle.word_permit.specs.declared.book.AreaNeed.{AreaNeed}
 use Rattle.word_permit.specs.declared.book.Decision.{Decision}
 use Rattle.word_permit.specs.declared.book.WordBook.{WordBook}
-use Rattle.word_permit.specs.Books.{HasItsTables, IsWordBook}
+use Rattle.word_permit.specs.Books.{HasItsTables, IsWordBook, SpawnsNone}
 use Rattle.word_permit.specs.Needs.{IsAwaited}
-use Rattle.word_permit.specs.Notes.{AreOfSpawned}
+use Rattle.word_permit.specs.Answers.{AnswersAgree, TellsDrop}
+use Rattle.word_permit.specs.Notes.{AreThoseSpawned}
 use Rattle.word_permit.specs.Purged.{DoomsCode, DropsCode, EndsNext, HasGrown, IsCodeDropped, IsDoomMade, IsMadeBy, IsToldBy, IsToldByDrop}
 use Rattle.word_permit.specs.Settled.{IsFinished}
 use Rattle.word_permit.specs.Waiting.{RestsBy, WordsStand}
-use Rattle.word_permit.proofs.Answered.{KeepsAnswers, answered_joined, answered_more}
+use Rattle.word_permit.proofs.Answered.{GrowsAnswers, agree_joined, drop_added, none_added}
 use Rattle.word_permit.proofs.Awaiting.{need_on}
 use Rattle.word_permit.proofs.Calls.{no_look}
 use Rattle.word_permit.proofs.Ended.{entry_for, told_entry}
 use Rattle.word_permit.proofs.Growing.{published_more}
-use Rattle.word_permit.proofs.SpawnedBefore.{notes_later}
+use Rattle.word_permit.proofs.SpawnedBefore.{those_later}
 
 -- ---- the change that is decided
 
@@ -84,7 +85,8 @@ drops_publish s change dropped h = absurd h
 
 -- the drop is kept, and what the command tells by it
 pub record KeepsTold (s : ServerState) (old new : WriterView) (cmd : Cmd) : Type 0 where
-  pub more : KeepsAnswers old.looks new.looks
+  pub more : GrowsAnswers old.looks new.looks
+  pub added : (x : DroppedArea) → Among new.looks.dropped x → Among old.looks.dropped x ⊎ TellsDrop s (newest_number old.published) x cmd
   pub told : IsToldBy s old new.looks cmd
 
 pub drops_kept : (s : ServerState) (change : Change) (serial : ℕ) (old new : WriterView) (cmd : Cmd) → DropsCode change serial → IsToldByDrop s old serial cmd → KeepsDrop change old new → KeepsTold s old new cmd
@@ -96,7 +98,8 @@ drops_kept s (DropOld generation name serial says retired) dropped old new cmd h
         dropped = λ d had. subst (λ (k : WriterKept). Among k.dropped d) (sym looks) (suc had.0, had.1);
         lingering = λ l had. subst (λ (k : WriterKept). Among k.lingering l) (sym looks) had;
       };
-      told = told new.looks looks agree;
+      added = drop_added old.looks new.looks (drop_of old Frame dropped) (λ x. TellsDrop s (newest_number old.published) x cmd) looks told.1;
+      told = told.0 new.looks looks agree;
     }
 drops_kept s change dropped old new cmd h told keeps = absurd h
 
@@ -123,6 +126,7 @@ dooms_kept s (Condemn generation serial) old new cmd h told keeps = record {
     dropped = λ d had. subst (λ (k : WriterKept). Among k.dropped d) (sym keeps) had;
     lingering = λ l had. subst (λ (k : WriterKept). Among k.lingering l) (sym keeps) had;
   };
+  added = none_added old.looks new.looks (λ x. TellsDrop s (newest_number old.published) x cmd) keeps;
   told = subst (λ (k : WriterKept). IsToldBy s old k cmd) (sym keeps) told;
 }
 dooms_kept s change old new cmd h told keeps = absurd h
@@ -167,6 +171,11 @@ module _ (p : Book) (book : IsBook p) (who : ℕ) (d : Decision) (known : IsMade
       pub agrees_between : AgreesWithServer modules.instances server
       agrees_between = let f = follows_by server applied made_is in subst (λ ms. AgreesWithServer ms server) (sym follows) f.agrees
 
+-- what publishes makes no process
+publishes_spawnless : (texts : List Module) (s : ServerState) (cmd : Cmd) (o : Outcome) → apply_of texts s cmd ≡ Some o → is_some o.answer.published ≡ true → SpawnsNone cmd
+publishes_spawnless texts s (cmds.Spawn target args) o given publishes = false≢true (ap (λ (x : Outcome). is_some x.answer.published) (same_Some _ o given) ∙ publishes)
+publishes_spawnless texts s cmd o given publishes = tt
+
 -- ---- the book once it is published
 
 module _ (names : List Mfa) (table : TableId) (opening : Opening) (b : WordBook) (had : HasItsTables names table opening b) (who : ℕ) (d : Decision) (known : IsMadeBy (shown b.plain) d) (publishing : is_some (change_made b.plain.server d.change).answer.published ≡ true)
@@ -196,13 +205,16 @@ module _ (names : List Mfa) (table : TableId) (opening : Opening) (b : WordBook)
       subst (λ s. IsAnswerKept s (published_count b.plain.journal) (written_by t.writer).looks d.cmd) had.book.permit.log.server_is
       (subst (λ n. IsAnswerKept b.plain.server n (written_by t.writer).looks d.cmd) newest_counts keeps.told)
 
-  answers_longer : AreAnswersKept texts longer (written_by t.writer).looks
-  answers_longer =
-      answered_joined texts b.plain.journal (entry_for who d) (written_by t.writer).looks
-      (answered_more texts b.plain.journal (written_by b.tables.writer).looks (written_by t.writer).looks had.answered keeps.more) told_now
+  added_now : (x : DroppedArea) → Among (written_by t.writer).looks.dropped x → Among (written_by b.tables.writer).looks.dropped x ⊎ TellsDrop (newest_state texts empty_state b.plain.journal) (published_count b.plain.journal) x d.cmd
+  added_now x among =
+      subst (λ s. Among (written_by b.tables.writer).looks.dropped x ⊎ TellsDrop s (published_count b.plain.journal) x d.cmd) had.book.permit.log.server_is
+      (subst (λ n. Among (written_by b.tables.writer).looks.dropped x ⊎ TellsDrop b.plain.server n x d.cmd) newest_counts (keeps.added x among))
 
-  notes_longer : AreOfSpawned b.plain.script longer (written_by t.writer).notes
-  notes_longer = subst (AreOfSpawned b.plain.script longer) (sym notes) (notes_later b.plain.script b.plain.journal (entry_for who d) (written_by b.tables.writer).notes had.notes)
+  answers_longer : AnswersAgree texts longer (written_by t.writer).looks
+  answers_longer = agree_joined texts b.plain.journal (entry_for who d) (written_by b.tables.writer).looks (written_by t.writer).looks had.answered keeps.more added_now told_now
+
+  notes_longer : AreThoseSpawned b.plain.script longer (written_by t.writer).notes
+  notes_longer = subst (AreThoseSpawned b.plain.script longer) (sym notes) (those_later b.plain.script b.plain.journal (entry_for who d) (written_by b.tables.writer).notes (publishes_spawnless texts b.plain.server d.cmd (change_made b.plain.server d.change) known.given publishing) had.notes)
 
   pub published_book : (c : WordBook) → IsBook c.plain → c.plain.script ≡ b.plain.script → c.plain.journal ≡ longer → c.plain.server ≡ (change_made b.plain.server d.change).state → c.tables ≡ t → c.need ≡ b.need → c.look ≡ None → c.waiting ≡ None
       → RestsBy names c.plain.holder (change_made b.plain.server d.change).state t → IsWordBook names table opening c
@@ -215,12 +227,12 @@ module _ (names : List Mfa) (table : TableId) (opening : Opening) (b : WordBook)
       published = subst (λ (x : Tables). ArePublished names c.plain.script.modules c.plain.journal (written_by x.writer).published) (sym tables_are)
           (subst (λ js. ArePublished names c.plain.script.modules js (written_by t.writer).published) (sym journal)
           (subst (λ (x : Script). ArePublished names x.modules longer (written_by t.writer).published) (sym script) published_longer));
-      notes = subst (λ (x : Tables). AreOfSpawned c.plain.script c.plain.journal (written_by x.writer).notes) (sym tables_are)
-          (subst (λ js. AreOfSpawned c.plain.script js (written_by t.writer).notes) (sym journal)
-          (subst (λ (x : Script). AreOfSpawned x longer (written_by t.writer).notes) (sym script) notes_longer));
-      answered = subst (λ (x : Tables). AreAnswersKept c.plain.script.modules c.plain.journal (written_by x.writer).looks) (sym tables_are)
-          (subst (λ js. AreAnswersKept c.plain.script.modules js (written_by t.writer).looks) (sym journal)
-          (subst (λ (x : Script). AreAnswersKept x.modules longer (written_by t.writer).looks) (sym script) answers_longer));
+      notes = subst (λ (x : Tables). AreThoseSpawned c.plain.script c.plain.journal (written_by x.writer).notes) (sym tables_are)
+          (subst (λ js. AreThoseSpawned c.plain.script js (written_by t.writer).notes) (sym journal)
+          (subst (λ (x : Script). AreThoseSpawned x longer (written_by t.writer).notes) (sym script) notes_longer));
+      answered = subst (λ (x : Tables). AnswersAgree c.plain.script.modules c.plain.journal (written_by x.writer).looks) (sym tables_are)
+          (subst (λ js. AnswersAgree c.plain.script.modules js (written_by t.writer).looks) (sym journal)
+          (subst (λ (x : Script). AnswersAgree x.modules longer (written_by t.writer).looks) (sym script) answers_longer));
       awaited = subst (λ (o : Option AreaNeed). IfSome o (IsAwaited (written_by c.tables.writer))) (sym need)
           (subst (λ (x : Tables). IfSome b.need (IsAwaited (written_by x.writer))) (sym tables_are)
           (need_on (written_by b.tables.writer) (written_by t.writer) (next ∷ []) b.need waits published had.awaited));
@@ -239,23 +251,23 @@ pub record WasEnded (p : PermitState) (who : ℕ) (cmd : Cmd) (q : PermitState) 
   pub applied : apply_of p.script.modules p.server cmd ≡ Some outcome
   pub state : q ≡ record (joined p (Loader who) cmd outcome) { loaders = counted_in p.loaders who command; holder = Free }
 
-abbrev pub advanced_as : PermitState → OpStep → Advanced
+abbrev pub advanced_as : PermitState → Applied → PermitStep
 advanced_as q answer = record { state = q; answer = answer }
 
-pub was_ended : (p q : PermitState) (who : ℕ) (cmd : Cmd) (answer : OpStep) → command_ended p who cmd ≡ Some (record { state = q; answer = answer }) → WasEnded p who cmd q
+pub was_ended : (p q : PermitState) (who : ℕ) (cmd : Cmd) (answer : Applied) → command_ended p who cmd ≡ Some (record { state = q; answer = answer }) → WasEnded p who cmd q
 was_ended p q who cmd answer h = by (next_of p who) (apply_of p.script.modules p.server cmd) refl refl h
   where
     by : (n : Option ScriptCmd) (o : Option Outcome) → next_of p who ≡ n → apply_of p.script.modules p.server cmd ≡ o
-        → option_and_then {U = Advanced} (λ command. option_map {U = Advanced} freed (option_map {U = PermitStep} (λ s. record { state = record (s.state) { loaders = counted_in p.loaders who command }; answer = s.answer }) (option_map {U = PermitStep} (λ x. record { state = joined p (Loader who) cmd x; answer = x.answer }) o))) n
+        → option_and_then {U = PermitStep} (λ command. option_map {U = PermitStep} freed (option_map {U = PermitStep} (λ s. record { state = record (s.state) { loaders = counted_in p.loaders who command }; answer = s.answer }) (option_map {U = PermitStep} (λ x. record { state = joined p (Loader who) cmd x; answer = x.answer }) o))) n
         ≡ Some (record { state = q; answer = answer }) → WasEnded p who cmd q
     by None o e f g = absurd (none-some _ g)
     by (Some command) None e f g = absurd (none-some _ g)
     by (Some command) (Some x) e f g =
-        let s = same_Some (advanced_as (record (joined p (Loader who) cmd x) { loaders = counted_in p.loaders who command; holder = Free }) (steps.Done x.answer)) (advanced_as q answer) g in
-        record { command = command; next = e; outcome = x; applied = f; state = sym (ap (λ (a : Advanced). a.state) s) }
+        let s = same_Some (advanced_as (record (joined p (Loader who) cmd x) { loaders = counted_in p.loaders who command; holder = Free }) x.answer) (advanced_as q answer) g in
+        record { command = command; next = e; outcome = x; applied = f; state = sym (ap (λ (a : PermitStep). a.state) s) }
 
 -- entries join, and no loader has fewer commands done
-pub ended_grown : (b c : Book) (who : ℕ) (cmd : Cmd) (answer : OpStep) → command_ended (shown b) who cmd ≡ Some (record { state = shown c; answer = answer }) → HasGrown b c
+pub ended_grown : (b c : Book) (who : ℕ) (cmd : Cmd) (answer : Applied) → command_ended (shown b) who cmd ≡ Some (record { state = shown c; answer = answer }) → HasGrown b c
 ended_grown b c who cmd answer step =
     let e = was_ended (shown b) (shown c) who cmd answer step in
     record {

@@ -31,7 +31,7 @@ use Rattle.word_permit.specs.declared.book.Waiting.{Waiting}
 use Rattle.word_permit.specs.declared.book.WordBook.{WordBook}
 use Rattle.word_permit.specs.Books.{AwaitsPatch, HasEntered, HasGivenUp, HasItsTables, HasTakenBack, IsWordBook, JoinsUnpublished, OpAnswers, StageGoesOn, StillSettles, with_holder}
 use Rattle.word_permit.specs.Waiting.{GoesOverWords, IsDecided, IsWaiting, LeavesState, WordsStand}
-use Rattle.word_permit.proofs.Calls.{has_joined, no_look, none_before}
+use Rattle.word_permit.proofs.Calls.{has_joined, joins_quietly, no_look, none_before, those_joined}
 use Rattle.word_permit.proofs.Resting.{IsNoTrace, free_no_trace, none_waiting, rest_by, rests_by, rests_given}
 
 -- ---- the command that waits is taken out of the book
@@ -175,7 +175,7 @@ leaves_state s change h = absurd h
 pub ended_book : (names : List Mfa) (table : TableId) (command_opening : Opening) (b : WordBook) (plain : Book) → HasItsTables names table command_opening b → AreAtRest names b.plain.server b.tables → b.waiting ≡ None → b.look ≡ None → IsBook plain → plain.script ≡ b.plain.script
     → plain.holder ≡ Free → plain.server ≡ b.plain.server → JoinsUnpublished b.plain.journal plain.journal → IsWordBook names table command_opening (record b { plain = plain })
 ended_book names table command_opening b plain had rest none look book script free server journal = record {
-  has = has_joined names table command_opening b (record b { plain = plain }) had book script journal refl refl;
+  has = has_joined names table command_opening b (record b { plain = plain }) _ _ had (those_joined b plain had.notes script journal) book script (joins_quietly b.plain.journal plain.journal journal) refl refl;
   words = subst (WordsStand names (shown plain) b.tables) (sym none) (rests_by names plain.holder plain.server b.tables (free_no_trace plain.holder free) (subst (λ s. AreAtRest names s b.tables) (sym server) rest));
   looked = no_look b look;
 }

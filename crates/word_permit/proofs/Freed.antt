@@ -6,6 +6,7 @@ use Rattle.atomic_table.specs.Seated.{TableId}
 use Rattle.term_core.specs.declared.atom.Mfa.{Mfa}
 use Rattle.mod_core.specs.declared.code.Module.{Module}
 use Rattle.area_core.specs.Blocks.{Among}
+use Rattle.marks.specs.declared.kept.DroppedArea.{DroppedArea}
 use Rattle.marks.specs.declared.kept.LookKind.TheVariants.{Both}
 use Rattle.marks.specs.declared.kept.WriterKept.{WriterKept}
 use Rattle.shared_words.specs.declared.opening.Opening.{Opening}
@@ -40,21 +41,23 @@ use Rattle.write_permit.specs.declared.holder.Holder.TheVariants.{Free, Held, Pu
 use Rattle.write_permit.specs.Book.{IsBook, shown}
 use Rattle.write_permit.specs.Permit.{PermitState, joined, made_of, command_opening}
 use Rattle.write_permit.proofs.BookKeeps.{was_made}
-use Rattle.run_law.specs.Answers.{AreAnswersKept, HasDrop}
+use Rattle.run_law.specs.Answers.{HasDrop}
 use Rattle.run_law.specs.Published.{ArePublished}
 use Rattle.word_permit.specs.declared.book.AreaNeed.{AreaNeed}
 use Rattle.word_permit.specs.declared.book.Decision.{Decision}
 use Rattle.word_permit.specs.declared.book.Waiting.{Waiting}
 use Rattle.word_permit.specs.declared.book.WordBook.{WordBook}
 use Rattle.word_permit.specs.Books.{IsWordBook}
+use Rattle.word_permit.specs.Looks.{IsLookTaken}
 use Rattle.word_permit.specs.Needs.{IsAwaited}
-use Rattle.word_permit.specs.Notes.{AreOfSpawned}
+use Rattle.word_permit.specs.Answers.{AnswersAgree, IsDropAt}
+use Rattle.word_permit.specs.Notes.{AreThoseSpawned}
 use Rattle.word_permit.specs.Waiting.{GoesOverWords, IsDecided, RestsBy, WordsStand}
-use Rattle.word_permit.proofs.Calls.{no_look}
-use Rattle.word_permit.proofs.Answered.{answered_joined, answered_more}
+use Rattle.word_permit.proofs.Answered.{GrowsAnswers, agree_joined, drop_added}
 use Rattle.word_permit.proofs.Awaiting.{need_still}
 use Rattle.word_permit.proofs.Growing.{published_same}
-use Rattle.word_permit.proofs.SpawnedBefore.{notes_later}
+use Rattle.word_permit.proofs.Looked.{if_still}
+use Rattle.word_permit.proofs.SpawnedBefore.{those_later}
 
 -- ---- the server
 
@@ -205,13 +208,23 @@ module _ (names : List Mfa) (table : TableId) (command_opening : Opening) (b c :
     published_is = omega (arith, known.has.published.many);
   }
 
-  answers_kept : AreAnswersKept b.plain.script.modules b.plain.journal after.looks
-  answers_kept = answered_more b.plain.script.modules b.plain.journal before.looks after.looks known.has.answered (record {
+  answers_grow : GrowsAnswers before.looks after.looks
+  answers_grow = record {
     dropped = λ d had. subst (λ (k : WriterKept). Among k.dropped d) (sym keeps.looks) (suc had.0, had.1);
     lingering = λ l had. subst (λ (k : WriterKept). Among k.lingering l) (sym keeps.looks) had;
-  })
+  }
 
-  pub freed_book : c.need ≡ b.need → c.look ≡ None → c.waiting ≡ b.waiting → DecidedStays → StayFit → StandReleased names serial b.tables c.tables → StagesReleased names serial b.tables c.tables → SettlingReleased names serial b.tables c.tables → IsWordBook names table command_opening c
+  -- what is kept besides is this release
+  drop_is : IsDropAt Both serial (published_count b.plain.journal) (drop_of before Both serial)
+  drop_is = record { kind_is = refl; serial_is = refl; published_is = omega (arith, known.has.published.many) }
+
+  abbrev IsThis : DroppedArea → Type 0
+  IsThis d = IsDropAt Both serial (published_count b.plain.journal) d
+
+  answers_joined : AnswersAgree b.plain.script.modules (b.plain.journal ++ entry ∷ []) after.looks
+  answers_joined = agree_joined b.plain.script.modules b.plain.journal entry before.looks after.looks known.has.answered answers_grow (drop_added before.looks after.looks (drop_of before Both serial) IsThis keeps.looks drop_is) dropped
+
+  pub freed_book : c.need ≡ b.need → c.look ≡ b.look → c.waiting ≡ b.waiting → DecidedStays → StayFit → StandReleased names serial b.tables c.tables → StagesReleased names serial b.tables c.tables → SettlingReleased names serial b.tables c.tables → IsWordBook names table command_opening c
   freed_book need look waiting decided fit stands stages settles = record {
     has = record {
       book = book;
@@ -221,11 +234,11 @@ module _ (names : List Mfa) (table : TableId) (command_opening : Opening) (b c :
       published = subst (λ (x : PermitState). ArePublished names x.script.modules x.journal after.published) (sym freed.state)
           (subst (ArePublished names b.plain.script.modules (b.plain.journal ++ entry ∷ [])) (sym keeps.published)
           (published_same names b.plain.script.modules b.plain.journal entry known.has.book.permit.log.replays before.published known.has.published refl));
-      notes = subst (λ (x : PermitState). AreOfSpawned x.script x.journal after.notes) (sym freed.state)
-          (subst (AreOfSpawned b.plain.script (b.plain.journal ++ entry ∷ [])) (sym keeps.notes) (notes_later b.plain.script b.plain.journal entry before.notes known.has.notes));
-      answered = subst (λ (x : PermitState). AreAnswersKept x.script.modules x.journal after.looks) (sym freed.state) (answered_joined b.plain.script.modules b.plain.journal entry after.looks answers_kept dropped);
+      notes = subst (λ (x : PermitState). AreThoseSpawned x.script x.journal after.notes) (sym freed.state)
+          (subst (AreThoseSpawned b.plain.script (b.plain.journal ++ entry ∷ [])) (sym keeps.notes) (those_later b.plain.script b.plain.journal entry before.notes tt known.has.notes));
+      answered = subst (λ (x : PermitState). AnswersAgree x.script.modules x.journal after.looks) (sym freed.state) answers_joined;
       awaited = subst (λ (o : Option AreaNeed). IfSome o (IsAwaited after)) (sym need) (need_still before after b.need keeps.waits keeps.published known.has.awaited);
     };
     words = subst (WordsStand names (shown c.plain) c.tables) (sym waiting) (words_freed names (shown b.plain) (shown c.plain) serial b.tables c.tables b.waiting decided fit freed stands stages settles known.words);
-    looked = no_look c look;
+    looked = subst (λ (o : Option ℕ). IfSome o (IsLookTaken after)) (sym look) (if_still before after b.look keeps.pairs keeps.published known.looked);
   }

@@ -8,14 +8,12 @@ use Rattle.server_core.specs.declared.command.Cmd.TheVariants as cmds
 use Rattle.script_core.specs.declared.script.ScriptCmd.{ScriptCmd}
 use Rattle.script_core.specs.declared.script.ScriptCmd.TheVariants.{Trace}
 use Rattle.run_log.specs.declared.logs.Who.TheVariants.{Loader}
-use Rattle.write_permit.specs.declared.answers.OpStep.{OpStep}
-use Rattle.write_permit.specs.declared.answers.OpStep.TheVariants as ops
 use Rattle.write_permit.specs.declared.book.Book.{Book}
 use Rattle.write_permit.specs.declared.commands.OldCode.{OldCode}
 use Rattle.write_permit.specs.declared.holder.Holder.{Holder}
 use Rattle.write_permit.specs.declared.holder.Holder.TheVariants.{Free, Held, Purging, Tracing}
 use Rattle.write_permit.specs.Book.{IsBook, shown}
-use Rattle.write_permit.specs.Permit.{Advanced, PermitState, advanced, command_begun, done_of, entered_trace, next_of, command_opening, purged_code, settled}
+use Rattle.write_permit.specs.Permit.{PermitState, PermitStep, advanced, command_begun, done_of, entered_trace, next_of, command_opening, purged_code, settled}
 use Rattle.write_permit.proofs.Entered.{entered_grows}
 use Rattle.write_permit.proofs.Traces.{traced_whole, was_entered}
 use Rattle.word_permit.specs.declared.answers.CommandStep.{CommandStep}
@@ -40,12 +38,12 @@ grown_entered b c who target on h =
 
 -- ---- the end of a command
 
-abbrev advanced_to : PermitState → OpStep → Option Advanced
+abbrev advanced_to : PermitState → Applied → Option PermitStep
 advanced_to q answer = Some (record { state = q; answer = answer })
 
-grown_settled : (b c : Book) (by generation : ℕ) (answer : OpStep) → Some (settled (shown b) by generation) ≡ advanced_to (shown c) answer → HasGrown b c
+grown_settled : (b c : Book) (by generation : ℕ) (answer : Applied) → Some (settled (shown b) by generation) ≡ advanced_to (shown c) answer → HasGrown b c
 grown_settled b c by generation answer h =
-    let is : (settled (shown b) by generation).state ≡ shown c = ap (λ (a : Advanced). a.state) (same_Some _ _ h) in
+    let is : (settled (shown b) by generation).state ≡ shown c = ap (λ (a : PermitStep). a.state) (same_Some _ _ h) in
     record {
       script = ap (λ (x : PermitState). x.script) (sym is);
       more = [];
@@ -53,14 +51,14 @@ grown_settled b c by generation answer h =
       done = λ loader. subst (λ ls. done_of b.loaders.items loader ≤ done_of ls loader) (ap (λ (x : PermitState). x.loaders) is) (entered_grows (Tracing by generation) b.loaders.items loader);
     }
 
-grown_ended : (b c : Book) (who : ℕ) (answer : OpStep) → advanced (shown b) [] who b.holder ≡ advanced_to (shown c) answer → HasGrown b c
+grown_ended : (b c : Book) (who : ℕ) (answer : Applied) → advanced (shown b) [] who b.holder ≡ advanced_to (shown c) answer → HasGrown b c
 grown_ended b c who answer h = by b.holder h
   where
     by_code : (command : ScriptCmd) (code : Option OldCode) → command_begun (shown b) [] who command code ≡ advanced_to (shown c) answer → HasGrown b c
     by_code command None e = ended_grown b c who (command_opening b.server [] command) answer e
     by_code command (Some code) e = absurd (none-some _ e)
 
-    by_next : (o : Option ScriptCmd) → option_and_then {U = Advanced} (λ command. command_begun (shown b) [] who command (purged_code b.server command)) o ≡ advanced_to (shown c) answer → HasGrown b c
+    by_next : (o : Option ScriptCmd) → option_and_then {U = PermitStep} (λ command. command_begun (shown b) [] who command (purged_code b.server command)) o ≡ advanced_to (shown c) answer → HasGrown b c
     by_next None e = absurd (none-some _ e)
     by_next (Some command) e = by_code command (purged_code b.server command) e
 
@@ -73,7 +71,7 @@ grown_ended b c who answer h = by b.holder h
 -- ---- whatever is answered
 
 grown_op : (who : ℕ) (b c : WordBook) (step : CommandStep) → OpAnswers who b c step → HasGrown b.plain c.plain
-grown_op who b c (Done applied) h = grown_ended b.plain c.plain who (ops.Done applied) h.step
+grown_op who b c (Done applied) h = grown_ended b.plain c.plain who applied h.step
 grown_op who b c (NotYet answer) (inl h) = grown_same b.plain c.plain h.same
 grown_op who b c (NotYet answer) (inr h) = by h.since
   where

@@ -31,8 +31,8 @@ use Rattle.word_permit.specs.declared.book.Decision.{Decision}
 use Rattle.word_permit.specs.declared.book.WordBook.{WordBook}
 use Rattle.word_permit.specs.Books.{HasItsTables, IsWordBook, PublishesNone}
 use Rattle.word_permit.specs.Needs.{IsAwaited}
-use Rattle.word_permit.specs.Notes.{AreOfSpawned}
-use Rattle.run_law.specs.Answers.{AreAnswersKept}
+use Rattle.word_permit.specs.Answers.{AnswersAgree}
+use Rattle.word_permit.specs.Notes.{AreThoseSpawned}
 use Rattle.run_law.specs.Published.{ArePublished}
 use Rattle.word_permit.specs.Waiting.{GoesOverWords, IsDecided, WordsStand}
 use Rattle.word_permit.proofs.Awaiting.{need_still}
@@ -67,8 +67,8 @@ has_same names table opening b c had same modules tables exports none known need
   tables = tables;
   exports = exports;
   published = subst (λ (x : PermitState). ArePublished names x.script.modules x.journal (written_by c.tables.writer).published) (sym same) (subst (ArePublished names b.plain.script.modules b.plain.journal) (sym none) had.published);
-  notes = subst (λ (x : PermitState). AreOfSpawned x.script x.journal (written_by c.tables.writer).notes) (sym same) (subst (AreOfSpawned b.plain.script b.plain.journal) (sym known.notes) had.notes);
-  answered = subst (λ (x : PermitState). AreAnswersKept x.script.modules x.journal (written_by c.tables.writer).looks) (sym same) (subst (AreAnswersKept b.plain.script.modules b.plain.journal) (sym known.looks) had.answered);
+  notes = subst (λ (x : PermitState). AreThoseSpawned x.script x.journal (written_by c.tables.writer).notes) (sym same) (subst (AreThoseSpawned b.plain.script b.plain.journal) (sym known.notes) had.notes);
+  answered = subst (λ (x : PermitState). AnswersAgree x.script.modules x.journal (written_by c.tables.writer).looks) (sym same) (subst (AnswersAgree b.plain.script.modules b.plain.journal) (sym known.looks) had.answered);
   awaited = subst (λ (o : Option AreaNeed). IfSome o (IsAwaited (written_by c.tables.writer))) (sym need) (need_still (written_by b.tables.writer) (written_by c.tables.writer) b.need known.waits none had.awaited);
 }
 

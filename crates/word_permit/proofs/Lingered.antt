@@ -72,8 +72,8 @@ if_left old new found serial process turn place is told same none = by (names_fr
     by false left e none = record { word = found; left = left; view = e }
 
 answers_lingered : (w : WriterView) (l : LingeringFrame) (b : Bool) → KeepsAnswers w.looks (if b then with_lingering l w else w).looks
-answers_lingered w l true = record { dropped = λ d had. had; lingering = λ x had. (suc had.0, had.1) }
-answers_lingered w l false = record { dropped = λ d had. had; lingering = λ x had. had }
+answers_lingered w l true = record { grows = record { dropped = λ d had. had; lingering = λ x had. (suc had.0, had.1) }; none = λ d has. has }
+answers_lingered w l false = record { grows = record { dropped = λ d had. had; lingering = λ x had. had }; none = λ d has. has }
 
 pub book_lingered : (names : List Mfa) (table : TableId) (opening : Opening) (b : WordBook) (writer : writers.Writer) → IsWordBook names table opening b → areas.KeptByLooks → IsWriterOf table opening writer → (place found : ℕ) (l : LingeringFrame)
     → written_by writer ≡ lingering_found place found l (written_by b.tables.writer) → IsWordBook names table opening (record b { tables = with_writer b.tables writer })

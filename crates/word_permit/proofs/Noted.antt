@@ -1,5 +1,6 @@
 -- A note is split: what stood for the server stands still.
-use Rattle.std.proofs.Common.{◌≡◌, ℕ, List, Option, Some, None, IfSome, refl, sym, subst}
+use Rattle.std.proofs.Common.{◌≡◌, ℕ, ◌⊎◌, inl, inr, List, Option, Some, None, IfSome, refl, sym, subst}
+use Rattle.std.proofs.lemmas.Option.{none-some, same_Some}
 use Rattle.atomic_table.specs.Seated.{TableId}
 use Rattle.term_core.specs.declared.area.AreaRef.{AreaRef}
 use Rattle.term_core.specs.declared.atom.Mfa.{Mfa}
@@ -27,22 +28,22 @@ use Rattle.staging.specs.Standing.{StandFor}
 use Rattle.staging.specs.Whose.{AreTablesOf}
 use Rattle.write_permit.specs.declared.holder.Holder.{Holder}
 use Rattle.write_permit.specs.declared.holder.Holder.TheVariants.{Free, Held, Purging, Tracing}
-use Rattle.write_permit.specs.declared.spawned.Spawned as plain
 use Rattle.write_permit.specs.Book.{shown}
 use Rattle.write_permit.specs.Permit.{PermitState}
 use Rattle.word_permit.specs.declared.book.Waiting.{Waiting}
 use Rattle.word_permit.specs.declared.book.WordBook.{WordBook}
+use Rattle.word_permit.specs.Answers.{AnswersAgree}
 use Rattle.word_permit.specs.Books.{IsWordBook}
 use Rattle.word_permit.specs.Looks.{IsLookTaken}
 use Rattle.word_permit.specs.Needs.{IsAwaited}
-use Rattle.word_permit.specs.Notes.{AreOfSpawned, IsSpawnedIn, noted_for}
-use Rattle.run_law.specs.Answers.{AreAnswersKept}
+use Rattle.word_permit.specs.Notes.{AreOfSpawned, AreThoseSpawned, HasNoteIn, IsSpawnedIn, noted_for}
 use Rattle.run_law.specs.Published.{ArePublished}
 use Rattle.word_permit.specs.Waiting.{RestsBy, WordsStand}
 use Rattle.word_permit.proofs.Awaiting.{need_still}
+use Rattle.word_permit.proofs.Calls.{StandsWith}
 use Rattle.word_permit.proofs.Looked.{if_still}
 use Rattle.word_permit.proofs.Patches.{patch_noted}
-use Rattle.word_permit.proofs.SpawnedBefore.{notes_more}
+use Rattle.word_permit.proofs.SpawnedBefore.{those_more}
 
 -- ---- the words
 
@@ -161,17 +162,22 @@ module _ (names : List Mfa) (table : TableId) (opening : Opening) (b : WordBook)
         patch = patch_noted b.tables.patch (written_by b.tables.writer) (written_by writer) process view h.patch;
       }
 
-  book_noted : (process : ℕ) → written_by writer ≡ with_note process (written_by b.tables.writer) → IsSpawnedIn b.plain.script b.plain.journal process → IsWordBook names table opening b → IsWordBook names table opening left
-  book_noted process view spawned h = record {
+  -- of the notes it is known that each is of a process that was spawned
+  abbrev Stands : Type 0
+  Stands = StandsWith names table opening (AreOfSpawned b.plain.script b.plain.journal (written_by b.tables.writer).notes) b
+
+  book_noted : (process : ℕ) → written_by writer ≡ with_note process (written_by b.tables.writer) → IsSpawnedIn b.plain.script b.plain.journal process
+      → ((other : ℕ) → IsSpawnedIn b.plain.script b.plain.journal other → HasNoteIn (written_by b.tables.writer).notes other ⊎ (process ≡ other)) → Stands → IsWordBook names table opening left
+  book_noted process view spawned others h = record {
     has = record {
       book = h.has.book;
       texts = h.has.texts;
       tables = tables_noted process view h.has.tables;
       exports = h.has.exports;
       published = subst (λ (v : WriterView). ArePublished names b.plain.script.modules b.plain.journal v.published) (sym view) h.has.published;
-      notes = subst (λ (v : WriterView). AreOfSpawned b.plain.script b.plain.journal v.notes) (sym view)
-          (notes_more b.plain.script b.plain.journal (written_by b.tables.writer).notes (note_number process (written_by b.tables.writer)) h.has.notes spawned);
-      answered = subst (λ (v : WriterView). AreAnswersKept b.plain.script.modules b.plain.journal v.looks) (sym view) h.has.answered;
+      notes = subst (λ (v : WriterView). AreThoseSpawned b.plain.script b.plain.journal v.notes) (sym view)
+          (those_more b.plain.script b.plain.journal (written_by b.tables.writer).notes (note_number process (written_by b.tables.writer)) h.has.notes spawned others);
+      answered = subst (λ (v : WriterView). AnswersAgree b.plain.script.modules b.plain.journal v.looks) (sym view) h.has.answered;
       awaited = subst (λ (v : WriterView). IfSome b.need (IsAwaited v)) (sym view) (need_still (written_by b.tables.writer) (with_note process (written_by b.tables.writer)) b.need (λ pair had. had) refl h.has.awaited);
     };
     words = words_noted names (shown b.plain) b.tables writer process b.waiting view by_index h.words;
@@ -179,10 +185,33 @@ module _ (names : List Mfa) (table : TableId) (opening : Opening) (b : WordBook)
   }
 
   -- no note was split
-  book_unnoted : writer ≡ b.tables.writer → IsWordBook names table opening b → IsWordBook names table opening left
-  book_unnoted same h = subst (λ x. IsWordBook names table opening (record b { tables = with_writer b.tables x })) (sym same) h
+  book_unnoted : writer ≡ b.tables.writer → ((process : ℕ) → IsSpawnedIn b.plain.script b.plain.journal process → HasNoteIn (written_by b.tables.writer).notes process) → Stands → IsWordBook names table opening left
+  book_unnoted same each h =
+      subst (λ x. IsWordBook names table opening (record b { tables = with_writer b.tables x })) (sym same)
+      (record {
+        has = record {
+          book = h.has.book;
+          texts = h.has.texts;
+          tables = h.has.tables;
+          exports = h.has.exports;
+          published = h.has.published;
+          notes = record { of = h.has.notes; each = each };
+          answered = h.has.answered;
+          awaited = h.has.awaited;
+        };
+        words = h.words;
+        looked = h.looked;
+      })
 
-  pub book_after : (made : Option plain.Spawned) → (made ≡ None → writer ≡ b.tables.writer) → written_by writer ≡ noted_for made (written_by b.tables.writer) → IfSome made (λ (s : plain.Spawned). IsSpawnedIn b.plain.script b.plain.journal s.process)
-      → IsWordBook names table opening b → IsWordBook names table opening left
-  book_after None same view spawned h = book_unnoted (same refl) h
-  book_after (Some made) same view spawned h = book_noted made.process view spawned h
+  others_none : (process : ℕ) → HasNoteIn (written_by b.tables.writer).notes process ⊎ (◌≡◌ {A = Option ℕ} None (Some process)) → HasNoteIn (written_by b.tables.writer).notes process
+  others_none process (inl had) = had
+  others_none process (inr now) = absurd (none-some process now)
+
+  others_some : (made process : ℕ) → HasNoteIn (written_by b.tables.writer).notes process ⊎ (Some made ≡ Some process) → HasNoteIn (written_by b.tables.writer).notes process ⊎ (made ≡ process)
+  others_some made process (inl had) = inl had
+  others_some made process (inr now) = inr (same_Some made process now)
+
+  pub book_after : (made : Option ℕ) → (made ≡ None → writer ≡ b.tables.writer) → written_by writer ≡ noted_for made (written_by b.tables.writer) → IfSome made (IsSpawnedIn b.plain.script b.plain.journal)
+      → ((process : ℕ) → IsSpawnedIn b.plain.script b.plain.journal process → HasNoteIn (written_by b.tables.writer).notes process ⊎ (made ≡ Some process)) → Stands → IsWordBook names table opening left
+  book_after None same view spawned others h = book_unnoted (same refl) (λ process was. others_none process (others process was)) h
+  book_after (Some made) same view spawned others h = book_noted made view spawned (λ process was. others_some made process (others process was)) h

@@ -1,21 +1,20 @@
 -- What a call that pumps says of the book before it, where the counter or slots were looked at first.
-use Rattle.std.proofs.Common.{◌≡◌, ℕ, [], Some, IsTrue, IfOk, Result, Ok, Err, sym, subst, ◌∙◌, arith}
+use Rattle.std.proofs.Common.{◌≡◌, ℕ, [], Some, IsTrue, IsSomeAnd, IfOk, Result, Ok, Err, sym, subst, ◌∙◌, arith}
 use Rattle.term_core.specs.declared.no_memory.NoMemory.{NoMemory}
 use Rattle.progress_words.specs.Tokens.{written_by}
 use Rattle.server_core.specs.ServerState.{is_retired}
 use Rattle.breakpoints.specs.Patches.{LoadsCounter}
 use Rattle.staging.specs.declared.tables.Tables.{Tables}
 use Rattle.staging.specs.Released.{IsStagedStill}
-use Rattle.write_permit.specs.declared.answers.Pumped.TheVariants as plain
 use Rattle.write_permit.specs.declared.book.Book.{Book}
 use Rattle.write_permit.specs.Book.{shown}
-use Rattle.write_permit.specs.Permit.{pumped}
+use Rattle.write_permit.specs.Permit.{released_by}
 use Rattle.word_permit.specs.declared.answers.Pumped.{Pumped}
 use Rattle.word_permit.specs.declared.answers.Pumped.TheVariants.{Released, NotYet, Named, Nothing}
 use Rattle.word_permit.specs.declared.book.AreaNeed.{AreaNeed}
 use Rattle.word_permit.specs.declared.book.WordBook.{WordBook}
 use Rattle.word_permit.specs.Looks.{KeepsLooks}
-use Rattle.word_permit.specs.Pumped.{HasReleased, PumpAnswers, ReleasesNone}
+use Rattle.word_permit.specs.Pumped.{HasReleased, PumpAnswers, ReleasesNone, asked_behind}
 use Rattle.word_permit.proofs.AreaLooks.{named_since}
 
 staged_both : (a b c : Tables) → IsStagedStill a b → IsStagedStill b c → IsStagedStill a c
@@ -40,11 +39,11 @@ module _ (b m c : WordBook) (first : ReleasesNone b m) (same : m.plain ≡ b.pla
   pub released_through : (serial : ℕ) → HasReleased serial m c → HasReleased serial b c
   released_through serial h = record {
     waited = still_retired serial h.waited;
-    step = subst (λ (p : Book). pumped (shown p) (Some serial) ≡ Some (record { state = shown c.plain; answer = plain.Released serial })) same h.step;
+    step = subst (λ (p : Book). released_by (shown p) serial ≡ Some (shown c.plain)) same h.step;
     published = h.published ∙ first.published;
     staged = staged_both b.tables m.tables c.tables first.staged h.staged;
     waiting = h.waiting ∙ first.waiting;
-    forgets = h.forgets;
+    look = h.look ∙ first.look;
   }
 
   module _ (loads : LoadsCounter (written_by b.tables.writer) (written_by m.tables.writer)) (need : (before : AreaNeed) → b.need ≡ Some before → IsTrue (is_retired b.plain.server before.serial) → m.need ≡ Some before)
@@ -65,7 +64,10 @@ module _ (b m c : WordBook) (first : ReleasesNone b m) (same : m.plain ≡ b.pla
     )
     pumped_through (Named serial process turn place word) h = (
       none_twice b m c first h.0,
-      (still_retired serial h.1.0, named_since serial (written_by b.tables.writer) (written_by m.tables.writer) (written_by c.tables.writer) process turn place word looks h.1.1),
+      (
+        still_retired serial h.1.0,
+        (named_since serial (written_by b.tables.writer) (written_by m.tables.writer) (written_by c.tables.writer) process turn place word looks h.1.1.0, subst (λ (p : Book). IsSomeAnd c.need (λ n. n.serial ≡ asked_behind p.server.retired serial)) same h.1.1.1),
+      ),
     )
     pumped_through Nothing h = (none_twice b m c first h.0, subst (λ (p : Book). p.server.retired ≡ []) same h.1)
 

@@ -33,13 +33,11 @@ use Rattle.run_log.specs.Journal.{newest_state, published_count}
 use Rattle.run_log.proofs.SpanRuns.{some_at}
 use Rattle.change_laws.specs.Names.{IsNumbered}
 use Rattle.script_core.specs.declared.script.Script.{Script}
-use Rattle.run_law.specs.Answers.{AreAnswersKept, HasLingering, IsAnswerKept}
+use Rattle.run_law.specs.Answers.{HasLingering, IsAnswerKept}
 use Rattle.run_law.specs.Published.{ArePublished}
 use Rattle.staging.specs.declared.tables.Tables.{Tables}
 use Rattle.staging.specs.Stages.{AreAtRest}
 use Rattle.staging.proofs.Known.{longer_same}
-use Rattle.write_permit.specs.declared.answers.OpStep.{OpStep}
-use Rattle.write_permit.specs.declared.answers.OpStep.TheVariants as steps
 use Rattle.write_permit.specs.declared.book.Book.{Book}
 use Rattle.write_permit.specs.declared.holder.Holder.{Holder}
 use Rattle.write_permit.specs.declared.holder.Holder.TheVariants.{Held, Purging}
@@ -48,12 +46,13 @@ use Rattle.write_permit.specs.Permit.{PermitState, PermitStep, done_of, doomed_b
 use Rattle.word_permit.specs.declared.answers.CommandStep.{CommandStep}
 use Rattle.word_permit.specs.declared.answers.CommandStep.TheVariants.{Done, NotYet, AwaitRelease, Lingers}
 use Rattle.word_permit.specs.declared.book.WordBook.{WordBook}
-use Rattle.word_permit.specs.Books.{HasGivenUp, HasTakenBack, IsWordBook}
+use Rattle.word_permit.specs.Answers.{AnswersAgree}
+use Rattle.word_permit.specs.Books.{HasGivenUp, HasTakenBack, IsWordBook, SpawnsNone}
 use Rattle.word_permit.specs.Looks.{HasLooked, HasLookedFor, IsLookTaken, IsReached}
-use Rattle.word_permit.specs.Notes.{AreOfSpawned}
+use Rattle.word_permit.specs.Notes.{AreThoseSpawned}
 use Rattle.word_permit.specs.Purged.{AwaitsFound, EndAnswers, EndsByCode, EndsNext, EndsWith, HasBegun, HasDoomedCode, HasGrown, HasLeftCode, IsCodeDropped, IsEndLooked, IsEndedBy, IsLearntBehind, IsLingerKept, IsLookLate, IsOldCodeOf, IsToldBy, JustLooks, LeavesServer, LingersAs, LingersIn, LookAnswers, NamesCode, PurgeAnswers, StillWaits}
 use Rattle.word_permit.specs.Waiting.{WordsStand}
-use Rattle.word_permit.proofs.Answered.{answered_joined}
+use Rattle.word_permit.proofs.Answered.{agree_joined, grows_same}
 use Rattle.word_permit.proofs.Calls.{counts_none}
 use Rattle.word_permit.proofs.Dropped.{ended_grown, was_ended}
 use Rattle.word_permit.proofs.Followed.{at_rest}
@@ -61,7 +60,7 @@ use Rattle.word_permit.proofs.Growing.{published_same}
 use Rattle.word_permit.proofs.Looked.{still_longer}
 use Rattle.word_permit.proofs.OldCode.{old_gone}
 use Rattle.word_permit.proofs.Resting.{ends_no_trace, free_no_trace, none_waiting, rests_by, stands_by}
-use Rattle.word_permit.proofs.SpawnedBefore.{notes_later}
+use Rattle.word_permit.proofs.SpawnedBefore.{those_later}
 
 -- ---- a look
 
@@ -80,7 +79,7 @@ module _ (b m : WordBook) (looks : JustLooks b m) where
   pub ends_done : (who : ℕ) (cmd : Cmd) (c : WordBook) (applied : Applied) → EndsWith who cmd m c applied → EndsWith who cmd b c applied
   ends_done who cmd c applied h = record {
     ends = subst (λ p. EndsNext p who cmd) shown_same h.ends;
-    step = subst (λ p. command_ended p who cmd ≡ Some (record { state = shown c.plain; answer = steps.Done applied })) shown_same h.step;
+    step = subst (λ p. command_ended p who cmd ≡ Some (record { state = shown c.plain; answer = applied })) shown_same h.step;
     reply = h.reply;
     told = subst (λ s. IsToldBy s (written_by b.tables.writer) (written_by c.tables.writer).looks cmd) server_same
         (subst (λ n. IsAnswerKept m.plain.server n (written_by c.tables.writer).looks cmd) (ap newest_number looks.published) h.told);
@@ -256,9 +255,9 @@ kept_still b m serial l looks h = subst (λ n. HasLingering (written_by m.tables
 
 -- ---- an end that leaves the server
 
-pub quiet_end : (names : List Mfa) (table : TableId) (opening : Opening) (b : WordBook) (plain : Book) (who : ℕ) (cmd : Cmd) (answer : OpStep) → IsWordBook names table opening b → b.waiting ≡ None → IsBook plain → EndsNext (shown b.plain) who cmd → command_ended (shown b.plain) who cmd ≡ Some (record { state = shown plain; answer = answer })
-    → LeavesServer b.plain.script.modules b.plain.server cmd → IsToldBy b.plain.server (written_by b.tables.writer) (written_by b.tables.writer).looks cmd → IsWordBook names table opening (record b { plain = plain; look = None })
-quiet_end names table opening b plain who cmd answer known none book ends step leaves told =
+pub quiet_end : (names : List Mfa) (table : TableId) (opening : Opening) (b : WordBook) (plain : Book) (who : ℕ) (cmd : Cmd) (answer : Applied) → IsWordBook names table opening b → b.waiting ≡ None → IsBook plain → EndsNext (shown b.plain) who cmd → command_ended (shown b.plain) who cmd ≡ Some (record { state = shown plain; answer = answer })
+    → LeavesServer b.plain.script.modules b.plain.server cmd → IsToldBy b.plain.server (written_by b.tables.writer) (written_by b.tables.writer).looks cmd → SpawnsNone cmd → IsWordBook names table opening (record b { plain = plain; look = None })
+quiet_end names table opening b plain who cmd answer known none book ends step leaves told spawnless =
     let e = was_ended (shown b.plain) (shown plain) who cmd answer step in
     let left = leaves e.outcome e.applied in
     let entry : Entry = record { who = Loader who; cmd = cmd; reply = e.outcome.answer.reply; published = e.outcome.answer.published } in
@@ -278,10 +277,10 @@ quiet_end names table opening b plain who cmd answer known none book ends step l
         published = subst (λ (x : Script). ArePublished names x.modules plain.journal w.published) (sym script)
             (subst (λ js. ArePublished names b.plain.script.modules js w.published) (sym journal)
             (published_same names b.plain.script.modules b.plain.journal entry known.has.book.permit.log.replays w.published known.has.published (counts_none entry left.1)));
-        notes = subst (λ (x : Script). AreOfSpawned x plain.journal w.notes) (sym script)
-            (subst (λ js. AreOfSpawned b.plain.script js w.notes) (sym journal) (notes_later b.plain.script b.plain.journal entry w.notes known.has.notes));
-        answered = subst (λ (x : Script). AreAnswersKept x.modules plain.journal w.looks) (sym script)
-            (subst (λ js. AreAnswersKept b.plain.script.modules js w.looks) (sym journal) (answered_joined b.plain.script.modules b.plain.journal entry w.looks known.has.answered tells));
+        notes = subst (λ (x : Script). AreThoseSpawned x plain.journal w.notes) (sym script)
+            (subst (λ js. AreThoseSpawned b.plain.script js w.notes) (sym journal) (those_later b.plain.script b.plain.journal entry w.notes spawnless known.has.notes));
+        answered = subst (λ (x : Script). AnswersAgree x.modules plain.journal w.looks) (sym script)
+            (subst (λ js. AnswersAgree b.plain.script.modules js w.looks) (sym journal) (agree_joined b.plain.script.modules b.plain.journal entry w.looks w.looks known.has.answered (grows_same w.looks) (λ d among. inl among) tells));
         awaited = known.has.awaited;
       };
       words = subst (WordsStand names (shown plain) b.tables) (sym none)
@@ -336,7 +335,7 @@ grown_doomed b c who name h =
     }
 
 pub grown_by : (who : ℕ) (b c : WordBook) (step : CommandStep) → PurgeAnswers who b c step → HasGrown b.plain c.plain
-grown_by who b c (Done applied) h = ended_grown b.plain c.plain who h.cmd (steps.Done applied) h.ended.step
+grown_by who b c (Done applied) h = ended_grown b.plain c.plain who h.cmd applied h.ended.step
 grown_by who b c (NotYet answer) h = by h.since
   where
     by : (HasBegun who b × StillWaits b c answer.need) ⊎ HasDoomedCode who b c → HasGrown b.plain c.plain

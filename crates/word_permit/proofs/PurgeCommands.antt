@@ -7,8 +7,10 @@ use Rattle.term_core.specs.declared.atom.Mfa.{Mfa}
 use Rattle.marks.specs.declared.kept.LookKind.TheVariants.{Frame}
 use Rattle.marks.specs.declared.kept.WriterKept.{WriterKept}
 use Rattle.shared_words.specs.declared.view.WriterView.{WriterView}
+use Rattle.shared_words.specs.Drops.{drop_of}
 use Rattle.shared_words.specs.Views.{newest_number}
 use Rattle.anchors.specs.declared.answers.Scan.TheVariants as scans
+use Rattle.server_core.specs.declared.command.Cmd.{Cmd}
 use Rattle.server_core.specs.declared.command.Cmd.TheVariants as cmds
 use Rattle.server_core.specs.declared.command.Linger.{Linger}
 use Rattle.server_core.specs.declared.command.Reply.TheVariants as replies
@@ -17,21 +19,23 @@ use Rattle.server_core.specs.ServerState.{ServerState, old_of}
 use Rattle.mod_core.specs.declared.code.Module.{Module}
 use Rattle.script_core.specs.declared.script.ScriptCmd.{ScriptCmd}
 use Rattle.script_core.specs.declared.script.ScriptCmd.TheVariants.{Load, Delete, Put, Erase, Trace, Spawn, CheckOld, Purge, SoftPurge}
-use Rattle.run_log.proofs.SpanRuns.{some_at}
+use Rattle.run_log.proofs.SpanRuns.{some_and, some_at}
 use Rattle.run_law.specs.Answers.{HasDrop, HasLingering, HasPurge}
 use Rattle.staging.specs.declared.tables.Tables.{Tables}
 use Rattle.write_permit.specs.declared.book.Book.{Book}
 use Rattle.write_permit.specs.declared.commands.OldCode.{OldCode}
 use Rattle.write_permit.specs.declared.holder.Holder.{Holder}
 use Rattle.write_permit.specs.declared.holder.Holder.TheVariants.{Free, Held, Purging, Tracing}
-use Rattle.write_permit.specs.Book.{HoldsJust, IsBook, PurgeWaits, TraceWaits, shown}
-use Rattle.write_permit.specs.Permit.{PermitState, holder_of, lingering, needs_permission, next_of, purged_code}
+use Rattle.write_permit.specs.Book.{EndsBy, HoldsJust, IsBook, PurgeWaits, TraceWaits, shown}
+use Rattle.write_permit.specs.Permit.{PermitState, command_opening, holder_of, lingering, needs_permission, next_of, purged_code}
 use Rattle.write_permit.proofs.EndBooks.{open_ends}
 use Rattle.write_permit.proofs.Ends.{code_of_module}
 use Rattle.word_permit.specs.declared.book.Waiting.{Waiting}
 use Rattle.word_permit.specs.declared.book.WordBook.{WordBook}
 use Rattle.word_permit.specs.declared.purging.Purged.{Purged}
 use Rattle.word_permit.specs.declared.purging.Purged.TheVariants.{Softly, Wholly}
+use Rattle.word_permit.specs.Answers.{IsDropAt}
+use Rattle.word_permit.specs.Books.{SpawnsNone}
 use Rattle.word_permit.specs.Looks.{HasLooked, before_look}
 use Rattle.word_permit.specs.Purged.{EndsNext, HasBegun, IsToldBy, IsToldByDrop, LeavesServer, Purges, is_purge, purged_by, purging_command}
 use Rattle.word_permit.specs.Waiting.{GoesOverWords, WordsStand}
@@ -202,11 +206,37 @@ whole_tells s w kept name none = subst (λ (o : Option ℕ). IfSome o (λ serial
 pub linger_tells : (s : ServerState) (w : WriterView) (kept : WriterKept) (name : AtomId) (serial : ℕ) (l : Linger) → old_of s name.0 ≡ Some serial → HasLingering kept serial (newest_number w.published) l → IsToldBy s w kept (cmds.SoftPurge name (Some l))
 linger_tells s w kept name serial l old has = subst (λ (o : Option ℕ). IfSome o (λ n. HasLingering kept n (newest_number w.published) l)) (sym old) has
 
+-- the drop is this one
+drop_is : (s : ServerState) (w : WriterView) (name : AtomId) (serial : ℕ) → old_of s name.0 ≡ Some serial → IsSomeAnd (old_of s name.0) (λ n. IsDropAt Frame n (newest_number w.published) (drop_of w Frame serial))
+drop_is s w name serial old = subst (λ (o : Option ℕ). IsSomeAnd o (λ n. IsDropAt Frame n (newest_number w.published) (drop_of w Frame serial))) (sym old) (record { kind_is = refl; serial_is = refl; published_is = refl })
+
 -- a drop is told of by a soft purge
 pub soft_told : (s : ServerState) (w : WriterView) (name : AtomId) (serial : ℕ) → old_of s name.0 ≡ Some serial → IsToldByDrop s w serial (cmds.SoftPurge name None)
-soft_told s w name serial old kept is agree = subst (λ (o : Option ℕ). IfSome o (λ n. HasDrop kept Frame n (newest_number w.published))) (sym old) (drop_told w kept serial is)
+soft_told s w name serial old =
+    (λ kept is agree. subst (λ (o : Option ℕ). IfSome o (λ n. HasDrop kept Frame n (newest_number w.published))) (sym old) (drop_told w kept serial is), drop_is s w name serial old)
 
 -- and by a purge, with whom the code has killed
 pub whole_told : (s : ServerState) (w : WriterView) (name : AtomId) (serial : ℕ) (killed : Bool) → old_of s name.0 ≡ Some serial → HasLooked serial w (scans.Clear killed) → IsToldByDrop s w serial (cmds.Purge name killed)
-whole_told s w name serial killed old looked kept is agree =
-    subst (λ (o : Option ℕ). IfSome o (λ n. HasPurge kept n (newest_number w.published) killed)) (sym old) (purge_told (before_look looked.0 w) w serial killed looked.1.cause.0 agree kept is)
+whole_told s w name serial killed old looked = (
+  λ kept is agree.
+      subst (λ (o : Option ℕ). IfSome o (λ n. HasPurge kept n (newest_number w.published) killed)) (sym old) (purge_told (before_look looked.0 w) w serial killed looked.1.cause.0 agree kept is),
+  drop_is s w name serial old,
+)
+
+-- ---- what ends makes no process
+
+opening_spawnless : (s : ServerState) (among : List Linger) (command : ScriptCmd) → needs_permission command ≡ true → SpawnsNone (command_opening s among command)
+opening_spawnless s among (Spawn target args) needs = false≢true needs
+opening_spawnless s among command needs = tt
+
+pub ends_spawnless : (p : PermitState) (who : ℕ) (cmd : Cmd) → HoldsJust p p.holder → holder_of p.holder ≡ Some who → EndsNext p who cmd → SpawnsNone cmd
+ends_spawnless p who cmd holds own ends = by p.holder d.0 (subst (λ (o : Option ScriptCmd). IsSomeAnd o (λ command. needs_permission command ≡ true)) d.1.0 (needs_next p p.holder who holds own)) d.1.1
+  where
+    d : (command : ScriptCmd) × ((next_of p who ≡ Some command) × EndsBy p p.holder command cmd)
+    d = some_and (next_of p who) (λ command. EndsBy p p.holder command cmd) ends
+
+    by : (holder : Holder) (command : ScriptCmd) → needs_permission command ≡ true → EndsBy p holder command cmd → SpawnsNone cmd
+    by Free command needs ends_so = absurd ends_so
+    by (Held n) command needs ends_so = subst SpawnsNone (sym ends_so.1.1) (opening_spawnless p.server ends_so.1.0 command needs)
+    by (Purging n name) command needs ends_so = subst SpawnsNone (sym ends_so.1) tt
+    by (Tracing n generation) command needs ends_so = absurd ends_so

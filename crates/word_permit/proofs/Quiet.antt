@@ -48,9 +48,9 @@ use Rattle.word_permit.specs.declared.book.WordBook.{WordBook}
 use Rattle.word_permit.specs.Books.{IsWordBook}
 use Rattle.word_permit.specs.Looks.{IsLookTaken}
 use Rattle.word_permit.specs.Needs.{IsAwaited}
-use Rattle.word_permit.specs.Notes.{AreOfSpawned}
+use Rattle.word_permit.specs.Notes.{AreThoseSpawned}
 use Rattle.word_permit.specs.Waiting.{RestsBy, WordsStand}
-use Rattle.word_permit.proofs.Answered.{KeepsAnswers, answered_more}
+use Rattle.word_permit.proofs.Answered.{KeepsAnswers, agree_more}
 use Rattle.word_permit.proofs.Awaiting.{need_still, waits_loaded}
 use Rattle.word_permit.proofs.Looked.{if_loaded, if_still}
 use Rattle.word_permit.proofs.Patches.{patch_left, patch_looked}
@@ -188,8 +188,8 @@ book_quiet names table opening b writer o l h tables quiet staged answers awaite
     tables = tables;
     exports = h.has.exports;
     published = subst (λ (v : WriterView). ArePublished names b.plain.script.modules b.plain.journal v.published) (sym quiet) h.has.published;
-    notes = subst (λ (v : WriterView). AreOfSpawned b.plain.script b.plain.journal v.notes) (sym quiet) h.has.notes;
-    answered = answered_more b.plain.script.modules b.plain.journal (written_by b.tables.writer).looks (written_by writer).looks h.has.answered answers;
+    notes = subst (λ (v : WriterView). AreThoseSpawned b.plain.script b.plain.journal v.notes) (sym quiet) h.has.notes;
+    answered = agree_more b.plain.script.modules b.plain.journal (written_by b.tables.writer).looks (written_by writer).looks h.has.answered answers;
     awaited = awaited;
   };
   words = words_quiet names (shown b.plain) b.tables writer b.waiting quiet staged h.words;
@@ -200,8 +200,11 @@ book_quiet names table opening b writer o l h tables quiet staged answers awaite
 
 answers_same : (old new : WriterKept) → new ≡ old → KeepsAnswers old new
 answers_same old new is = record {
-  dropped = λ d had. subst (λ (k : WriterKept). Among k.dropped d) (sym is) had;
-  lingering = λ l had. subst (λ (k : WriterKept). Among k.lingering l) (sym is) had;
+  grows = record {
+    dropped = λ d had. subst (λ (k : WriterKept). Among k.dropped d) (sym is) had;
+    lingering = λ l had. subst (λ (k : WriterKept). Among k.lingering l) (sym is) had;
+  };
+  none = λ d has. subst (λ (k : WriterKept). Among k.dropped d) is has;
 }
 
 module _ (names : List Mfa) (table : TableId) (opening : Opening) (b : WordBook) (writer : writers.Writer) (known : IsWordBook names table opening b) (by_index : indices.KeptByCounters) (by_terms : terms.KeptByCounters) (by_pools : areas.KeptByCounters)
@@ -300,6 +303,9 @@ pub book_looked : (names : List Mfa) (table : TableId) (opening : Opening) (b : 
 book_looked names table opening b writer known by_pools token more =
     book_found names table opening b writer known by_pools token more.same
     (record {
-      dropped = λ d had. subst (λ (ds : List DroppedArea). Among ds d) (sym more.dropped) had;
-      lingering = λ l had. subst (λ (ls : List LingeringFrame). Among ls l) (sym more.lingering) had;
+      grows = record {
+        dropped = λ d had. subst (λ (ds : List DroppedArea). Among ds d) (sym more.dropped) had;
+        lingering = λ l had. subst (λ (ls : List LingeringFrame). Among ls l) (sym more.lingering) had;
+      };
+      none = λ d has. subst (λ (ds : List DroppedArea). Among ds d) more.dropped has;
     })

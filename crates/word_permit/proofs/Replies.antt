@@ -11,10 +11,8 @@ use Rattle.server_core.specs.CommandTable.{Outcome, answered, apply_of, publishe
 use Rattle.server_core.specs.ServerState.{ServerState, old_of}
 use Rattle.script_core.specs.declared.script.ScriptCmd.{ScriptCmd}
 use Rattle.run_log.specs.declared.logs.Who.TheVariants.{Loader}
-use Rattle.write_permit.specs.declared.answers.OpStep.{OpStep}
-use Rattle.write_permit.specs.declared.answers.OpStep.TheVariants as steps
 use Rattle.write_permit.specs.declared.holder.Holder.TheVariants.{Free}
-use Rattle.write_permit.specs.Permit.{Advanced, PermitState, PermitStep, command_ended, counted_in, freed, joined, next_of}
+use Rattle.write_permit.specs.Permit.{PermitState, PermitStep, command_ended, counted_in, freed, joined, next_of}
 use Rattle.word_permit.specs.Purged.{RepliesSo}
 use Rattle.word_permit.proofs.Dropped.{advanced_as}
 
@@ -50,19 +48,15 @@ module _ (texts : List Module) (s : ServerState) (x : Outcome) where
   replies_so (cmds.Purge name killed) h = whole_told name.0 killed (old_of s name.0) h
   replies_so cmd h = tt
 
-abbrev told_by : Applied → OpStep → Applied
-told_by else_ (steps.Done applied) = applied
-told_by else_ step = else_
-
 -- so it is of the command by which a loader's command is done
-pub ended_reply : (p q : PermitState) (who : ℕ) (cmd : Cmd) (applied : Applied) → command_ended p who cmd ≡ Some (record { state = q; answer = steps.Done applied }) → RepliesSo cmd applied
+pub ended_reply : (p q : PermitState) (who : ℕ) (cmd : Cmd) (applied : Applied) → command_ended p who cmd ≡ Some (record { state = q; answer = applied }) → RepliesSo cmd applied
 ended_reply p q who cmd applied h = by (next_of p who) (apply_of p.script.modules p.server cmd) refl h
   where
     by : (n : Option ScriptCmd) (o : Option Outcome) → apply_of p.script.modules p.server cmd ≡ o
-        → option_and_then {U = Advanced} (λ command. option_map {U = Advanced} freed (option_map {U = PermitStep} (λ s. record { state = record (s.state) { loaders = counted_in p.loaders who command }; answer = s.answer }) (option_map {U = PermitStep} (λ x. record { state = joined p (Loader who) cmd x; answer = x.answer }) o))) n
-        ≡ Some (record { state = q; answer = steps.Done applied }) → RepliesSo cmd applied
+        → option_and_then {U = PermitStep} (λ command. option_map {U = PermitStep} freed (option_map {U = PermitStep} (λ s. record { state = record (s.state) { loaders = counted_in p.loaders who command }; answer = s.answer }) (option_map {U = PermitStep} (λ x. record { state = joined p (Loader who) cmd x; answer = x.answer }) o))) n
+        ≡ Some (record { state = q; answer = applied }) → RepliesSo cmd applied
     by None o f g = absurd (none-some _ g)
     by (Some command) None f g = absurd (none-some _ g)
     by (Some command) (Some x) f g =
-        let s = same_Some (advanced_as (record (joined p (Loader who) cmd x) { loaders = counted_in p.loaders who command; holder = Free }) (steps.Done x.answer)) (advanced_as q (steps.Done applied)) g in
-        subst (RepliesSo cmd) (ap (λ (a : Advanced). told_by applied a.answer) s) (replies_so p.script.modules p.server x cmd f)
+        let s = same_Some (advanced_as (record (joined p (Loader who) cmd x) { loaders = counted_in p.loaders who command; holder = Free }) x.answer) (advanced_as q applied) g in
+        subst (RepliesSo cmd) (ap (λ (a : PermitStep). a.answer) s) (replies_so p.script.modules p.server x cmd f)

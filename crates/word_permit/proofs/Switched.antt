@@ -46,11 +46,11 @@ use Rattle.word_permit.specs.Books.{HasEntered, HasItsTables, IsLateBy, IsWordBo
 use Rattle.word_permit.specs.Purged.{IsMadeBy}
 use Rattle.word_permit.specs.Settled.{without_newest}
 use Rattle.word_permit.specs.Traced.{IsEntered, IsTraceMade, SettleAnswers, SwitchAnswers, SwitchWaits}
-use Rattle.word_permit.specs.Notes.{AreOfSpawned}
+use Rattle.word_permit.specs.Answers.{AnswersAgree, TellsDrop}
+use Rattle.word_permit.specs.Notes.{AreThoseSpawned}
 use Rattle.word_permit.specs.Waiting.{IsDecided, IsSwitching, RestsBy, WordsStand}
-use Rattle.run_law.specs.Answers.{AreAnswersKept}
 use Rattle.run_law.specs.Published.{ArePublished}
-use Rattle.word_permit.proofs.Answered.{goes_quiet, none_told}
+use Rattle.word_permit.proofs.Answered.{goes_quiet, none_added, none_told}
 use Rattle.word_permit.proofs.Awaiting.{need_still}
 use Rattle.word_permit.proofs.Calls.{no_look}
 use Rattle.word_permit.proofs.Dropped.{KeepsTold, agrees_between, between, made_between, published_book}
@@ -95,6 +95,7 @@ keeps_told s old new who p d server known keeps = record {
     dropped = λ x had. subst (λ (k : WriterKept). Among k.dropped x) (sym keeps.looks) had;
     lingering = λ x had. subst (λ (k : WriterKept). Among k.lingering x) (sym keeps.looks) had;
   };
+  added = none_added old.looks new.looks (λ x. TellsDrop s (newest_number old.published) x d.cmd) keeps.looks;
   told = none_told s (newest_number old.published) new.looks d.cmd (subst TellsNone (sym known.cmd_is) (goes_quiet p.server known.command known.goes));
 }
 
@@ -249,10 +250,10 @@ module _ (names : List Mfa) (table : TableId) (opening : Opening) (b : WordBook)
           exports = exports ∙ had.exports;
           published = subst (λ (x : Script). ArePublished names x.modules plain.journal new.published) (sym script)
               (subst (λ js. ArePublished names b.plain.script.modules js new.published) (sym journal) (subst (ArePublished names b.plain.script.modules b.plain.journal) (sym published) had.published));
-          notes = subst (λ (x : Script). AreOfSpawned x plain.journal new.notes) (sym script)
-              (subst (λ js. AreOfSpawned b.plain.script js new.notes) (sym journal) (subst (AreOfSpawned b.plain.script b.plain.journal) (sym keeps.notes) had.notes));
-          answered = subst (λ (x : Script). AreAnswersKept x.modules plain.journal new.looks) (sym script)
-              (subst (λ js. AreAnswersKept b.plain.script.modules js new.looks) (sym journal) (subst (AreAnswersKept b.plain.script.modules b.plain.journal) (sym keeps.looks) had.answered));
+          notes = subst (λ (x : Script). AreThoseSpawned x plain.journal new.notes) (sym script)
+              (subst (λ js. AreThoseSpawned b.plain.script js new.notes) (sym journal) (subst (AreThoseSpawned b.plain.script b.plain.journal) (sym keeps.notes) had.notes));
+          answered = subst (λ (x : Script). AnswersAgree x.modules plain.journal new.looks) (sym script)
+              (subst (λ js. AnswersAgree b.plain.script.modules js new.looks) (sym journal) (subst (AnswersAgree b.plain.script.modules b.plain.journal) (sym keeps.looks) had.answered));
           awaited = need_still (written_by b.tables.writer) new b.need keeps.waits published had.awaited;
         }
 

@@ -37,21 +37,21 @@ use Rattle.word_permit.specs.declared.book.AreaNeed.{AreaNeed}
 use Rattle.word_permit.specs.declared.book.Decision.{Decision}
 use Rattle.word_permit.specs.declared.book.Waiting.{Waiting}
 use Rattle.word_permit.specs.declared.book.WordBook.{WordBook}
-use Rattle.word_permit.specs.Books.{HasItsTables, HasTakenBack, HasWaited, IsLateBy, IsLateStill, IsWordBook, OpAnswers, PublishesNone, TellsNone}
+use Rattle.word_permit.specs.Books.{HasItsTables, HasTakenBack, HasWaited, IsLateBy, IsLateStill, IsWordBook, OpAnswers, PublishesNone, SpawnsNone, TellsNone}
 use Rattle.word_permit.specs.Needs.{IsAwaited}
-use Rattle.word_permit.specs.Notes.{AreOfSpawned}
-use Rattle.run_law.specs.Answers.{AreAnswersKept}
+use Rattle.word_permit.specs.Notes.{AreThoseSpawned}
+use Rattle.word_permit.specs.Answers.{AnswersAgree}
 use Rattle.run_law.specs.Published.{ArePublished}
 use Rattle.word_permit.specs.Settled.{IsFinished, IsSettled, waiting_with, without_newest}
 use Rattle.word_permit.specs.Waiting.{IsDecided, RestsBy, WordsStand}
-use Rattle.word_permit.proofs.Answered.{answered_quietly, goes_quiet}
+use Rattle.word_permit.proofs.Answered.{agree_quietly, goes_quiet, goes_spawnless}
 use Rattle.word_permit.proofs.Awaiting.{need_on}
 use Rattle.word_permit.proofs.Calls.{no_look, none_before}
 use Rattle.word_permit.proofs.Ended.{PlainDone, entry_for, plain_done, state_joined}
 use Rattle.word_permit.proofs.Growing.{published_more}
 use Rattle.word_permit.proofs.Kept.{has_same, rests}
 use Rattle.word_permit.proofs.Resting.{free_no_trace, held_no_trace, rests_by}
-use Rattle.word_permit.proofs.SpawnedBefore.{notes_later}
+use Rattle.word_permit.proofs.SpawnedBefore.{those_later}
 
 -- a change that goes by stages publishes
 code_publishes : (s : ServerState) (change : Change) → IsCodeChange change → is_some (change_made s change).answer.published ≡ true
@@ -166,20 +166,20 @@ module _ (names : List Mfa) (table : TableId) (opening : Opening) (b : WordBook)
               (published_more names b.plain.script.modules b.plain.journal (entry_for who d) had.book.permit.log.replays (written_by b.tables.writer).published published.next had.published publishes_one
               (published.shows ∙ ap (generation_of names) (state_joined b.plain had.book who d held known))))))
 
-          notes_are : AreOfSpawned c.plain.script c.plain.journal (written_by c.tables.writer).notes
+          notes_are : AreThoseSpawned c.plain.script c.plain.journal (written_by c.tables.writer).notes
           notes_are =
-              subst (λ (x : PermitState). AreOfSpawned x.script x.journal (written_by c.tables.writer).notes) (sym finished.state)
-              (subst (λ (x : Tables). AreOfSpawned b.plain.script journal (written_by x.writer).notes) (sym tables_are)
-              (subst (AreOfSpawned b.plain.script journal) (sym keeps.notes)
-              (subst (λ js. AreOfSpawned b.plain.script js (written_by b.tables.writer).notes) (sym more) (notes_later b.plain.script b.plain.journal (entry_for who d) (written_by b.tables.writer).notes had.notes))))
+              subst (λ (x : PermitState). AreThoseSpawned x.script x.journal (written_by c.tables.writer).notes) (sym finished.state)
+              (subst (λ (x : Tables). AreThoseSpawned b.plain.script journal (written_by x.writer).notes) (sym tables_are)
+              (subst (AreThoseSpawned b.plain.script journal) (sym keeps.notes)
+              (subst (λ js. AreThoseSpawned b.plain.script js (written_by b.tables.writer).notes) (sym more) (those_later b.plain.script b.plain.journal (entry_for who d) (written_by b.tables.writer).notes (subst SpawnsNone (sym known.cmd_is) (goes_spawnless b.plain.server known.command known.goes)) had.notes))))
 
-          answers_are : AreAnswersKept c.plain.script.modules c.plain.journal (written_by c.tables.writer).looks
+          answers_are : AnswersAgree c.plain.script.modules c.plain.journal (written_by c.tables.writer).looks
           answers_are =
-              subst (λ (x : PermitState). AreAnswersKept x.script.modules x.journal (written_by c.tables.writer).looks) (sym finished.state)
-              (subst (λ (x : Tables). AreAnswersKept b.plain.script.modules journal (written_by x.writer).looks) (sym tables_are)
-              (subst (AreAnswersKept b.plain.script.modules journal) (sym keeps.looks)
-              (subst (λ js. AreAnswersKept b.plain.script.modules js (written_by b.tables.writer).looks) (sym more)
-              (answered_quietly b.plain.script.modules b.plain.journal (entry_for who d) (written_by b.tables.writer).looks had.answered
+              subst (λ (x : PermitState). AnswersAgree x.script.modules x.journal (written_by c.tables.writer).looks) (sym finished.state)
+              (subst (λ (x : Tables). AnswersAgree b.plain.script.modules journal (written_by x.writer).looks) (sym tables_are)
+              (subst (AnswersAgree b.plain.script.modules journal) (sym keeps.looks)
+              (subst (λ js. AnswersAgree b.plain.script.modules js (written_by b.tables.writer).looks) (sym more)
+              (agree_quietly b.plain.script.modules b.plain.journal (entry_for who d) (written_by b.tables.writer).looks had.answered
               (subst TellsNone (sym known.cmd_is) (goes_quiet b.plain.server known.command known.goes))))))
 
           need_is : IfSome c.need (IsAwaited (written_by c.tables.writer))

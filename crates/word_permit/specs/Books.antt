@@ -12,7 +12,7 @@ use Rattle.server_core.specs.declared.change.Change.{Change}
 use Rattle.server_core.specs.declared.change.Change.TheVariants.{SetTrace, ClearTrace}
 use Rattle.server_core.specs.declared.command.Applied.{Applied}
 use Rattle.server_core.specs.declared.command.Cmd.{Cmd}
-use Rattle.server_core.specs.declared.command.Cmd.TheVariants.{Purge, Release, SoftPurge}
+use Rattle.server_core.specs.declared.command.Cmd.TheVariants.{Purge, Release, SoftPurge, Spawn}
 use Rattle.server_core.specs.ServerState.{empty_state}
 use Rattle.script_core.specs.declared.script.Script.{Script}
 use Rattle.script_core.specs.declared.script.ScriptCmd.TheVariants.{Trace}
@@ -22,7 +22,6 @@ use Rattle.staging.specs.Stages.{IsLateFor, areas_at, stage_number}
 use Rattle.staging.specs.Traced.{IsPatchLate}
 use Rattle.staging.specs.Whose.{AreTablesOf}
 use Rattle.run_log.specs.declared.logs.Entry.{Entry}
-use Rattle.write_permit.specs.declared.answers.OpStep.TheVariants as steps
 use Rattle.write_permit.specs.declared.book.Book.{Book}
 use Rattle.write_permit.specs.declared.holder.Holder.{Holder}
 use Rattle.write_permit.specs.declared.holder.Holder.TheVariants.{Free, Held, Tracing}
@@ -34,26 +33,30 @@ use Rattle.word_permit.specs.declared.book.Waiting.{Waiting}
 use Rattle.word_permit.specs.declared.book.WordBook.{WordBook}
 use Rattle.word_permit.specs.Looks.{IsLookTaken}
 use Rattle.word_permit.specs.Needs.{IsAwaited}
-use Rattle.word_permit.specs.Notes.{AreOfSpawned}
-use Rattle.run_law.specs.Answers.{AreAnswersKept}
+use Rattle.word_permit.specs.Answers.{AnswersAgree}
+use Rattle.word_permit.specs.Notes.{AreThoseSpawned}
 use Rattle.run_law.specs.Published.{ArePublished}
 use Rattle.word_permit.specs.Runs.{Run}
 use Rattle.word_permit.specs.Waiting.{WordsStand}
 
 -- ---- what a permit keeps
 
--- the journal leads to the server, each loader's entries are those of its commands that are done, the writer has published what the journal has, its
--- notes are of processes that were spawned, and it keeps what the journal tells of processes and what it waits for before an area is released
-pub record HasItsTables (names : List Mfa) (table : TableId) (opening : Opening) (b : WordBook) : Type 0 where
+-- the journal leads to the server, each loader's entries are those of its commands that are done, the writer has published what the journal has, and it keeps
+-- what the journal tells of processes, the releases and drops that the journal tells, and what it waits for before an area is released; of its notes this is known
+pub record HasTablesWith (names : List Mfa) (table : TableId) (opening : Opening) (Notes : Type 0) (b : WordBook) : Type 0 where
   pub book : IsBook b.plain
   -- each name that a text exports has a number
   pub texts : All (IsNumbered names) b.plain.script.modules
   pub tables : AreTablesOf table opening b.tables
   pub exports : b.tables.exports ≡ names
   pub published : ArePublished names b.plain.script.modules b.plain.journal (written_by b.tables.writer).published
-  pub notes : AreOfSpawned b.plain.script b.plain.journal (written_by b.tables.writer).notes
-  pub answered : AreAnswersKept b.plain.script.modules b.plain.journal (written_by b.tables.writer).looks
+  pub notes : Notes
+  pub answered : AnswersAgree b.plain.script.modules b.plain.journal (written_by b.tables.writer).looks
   pub awaited : IfSome b.need (IsAwaited (written_by b.tables.writer))
+
+-- and its notes are those of the processes that were spawned
+abbrev pub HasItsTables : List Mfa → TableId → Opening → WordBook → Type 0
+HasItsTables names table opening b = HasTablesWith names table opening (AreThoseSpawned b.plain.script b.plain.journal (written_by b.tables.writer).notes) b
 
 -- and the words stand for the server
 pub record IsWordBook (names : List Mfa) (table : TableId) (opening : Opening) (b : WordBook) : Type 0 where
@@ -97,7 +100,7 @@ PublishesNone old new = (written_by new.tables.writer).published ≡ (written_by
 
 -- the loader's command is done: its entry joined the journal, the server made it, and the permission is free
 pub record EndsPlain (who : ℕ) (old new : Book) (applied : Applied) : Type 0 where
-  pub step : advanced (shown old) [] who old.holder ≡ Some (record { state = shown new; answer = steps.Done applied })
+  pub step : advanced (shown old) [] who old.holder ≡ Some (record { state = shown new; answer = applied })
   pub script : new.script ≡ old.script
 
 -- a command that tells nothing of processes
@@ -107,9 +110,18 @@ TellsNone (SoftPurge name linger) = ⊥
 TellsNone (Purge name killed) = ⊥
 TellsNone cmd = Unit {0}
 
+-- a command that makes no process
+abbrev pub SpawnsNone : Cmd → Type 0
+SpawnsNone (Spawn target args) = ⊥
+SpawnsNone cmd = Unit {0}
+
 -- an entry joined that publishes nothing, and tells nothing of processes
+abbrev pub JoinsQuietly : List Entry → List Entry → Type 0
+JoinsQuietly old new = (e : Entry) × ((new ≡ old ++ e ∷ []) × ((e.published ≡ None) × TellsNone e.cmd))
+
+-- and makes none
 abbrev pub JoinsUnpublished : List Entry → List Entry → Type 0
-JoinsUnpublished old new = (e : Entry) × ((new ≡ old ++ e ∷ []) × ((e.published ≡ None) × TellsNone e.cmd))
+JoinsUnpublished old new = (e : Entry) × ((new ≡ old ++ e ∷ []) × ((e.published ≡ None) × (TellsNone e.cmd × SpawnsNone e.cmd)))
 
 -- the stage of what waits is not behind that of what waited before
 abbrev pub StageGoesOn : Option Waiting → Option Waiting → Type 0
@@ -168,7 +180,7 @@ pub record AwaitsPatch (who : ℕ) (old new : WordBook) (answer : told.NotYet) :
   pub none : new.waiting ≡ None
   pub since : StillSettles who old new ⊎ HasEntered who old new
 
--- what each answer says; a purge alone lingers
+-- what each answer says of a command that purges nothing: it waits for no process
 abbrev pub OpAnswers : ℕ → WordBook → WordBook → CommandStep → Type 0
 OpAnswers who old new (Done applied) = EndsPlain who old.plain new.plain applied
 OpAnswers who old new (NotYet answer) = HasWaited old new (IsLateStill old new answer) ⊎ AwaitsPatch who old new answer

@@ -12,7 +12,6 @@ use Rattle.script_core.specs.Processes.{spawn_number}
 use Rattle.run_log.specs.declared.logs.Entry.{Entry}
 use Rattle.run_log.specs.Legal.{commands_in}
 use Rattle.staging.specs.declared.tables.Tables.{Tables}
-use Rattle.write_permit.specs.declared.spawned.Spawned as plain
 use Rattle.write_permit.specs.Permit.{PermitState, is_spawn, next_of, spawned_by}
 use Rattle.word_permit.specs.declared.answers.Spawned.{Spawned}
 
@@ -27,6 +26,15 @@ pub record IsSpawnedIn (script : Script) (journal : List Entry) (process : ℕ) 
 abbrev pub AreOfSpawned : Script → List Entry → List NoteNumber → Type 0
 AreOfSpawned script journal notes = (n : NoteNumber) → Among notes n → IsSpawnedIn script journal n.process
 
+-- there is a note of the process
+abbrev pub HasNoteIn : List NoteNumber → ℕ → Type 0
+HasNoteIn notes process = (n : NoteNumber) × (Among notes n × (n.process ≡ process))
+
+-- and each such process has one
+pub record AreThoseSpawned (script : Script) (journal : List Entry) (notes : List NoteNumber) : Type 0 where
+  pub of : AreOfSpawned script journal notes
+  pub each : (process : ℕ) → IsSpawnedIn script journal process → HasNoteIn notes process
+
 -- this is the process, and its note has learnt of all that the writer has published
 pub record HasNote (table : TableId) (number : ℕ) (w : WriterView) (s : Spawned) : Type 0 where
   pub process : s.process ≡ number
@@ -34,21 +42,21 @@ pub record HasNote (table : TableId) (number : ℕ) (w : WriterView) (s : Spawne
   pub learnt : noted_by s.note ≡ note_begun number w
 
 -- the process that a loader's next command spawns, if it spawns one
-abbrev pub next_spawned : PermitState → ℕ → Option plain.Spawned
+abbrev pub next_spawned : PermitState → ℕ → Option ℕ
 next_spawned p who = spawned_by p who (next_of p who)
 
 -- a process is handed out with its note, if one was spawned
-abbrev pub HandsOut : TableId → WriterView → Option plain.Spawned → Option Spawned → Type 0
+abbrev pub HandsOut : TableId → WriterView → Option ℕ → Option Spawned → Type 0
 HandsOut table w None told = told ≡ None
-HandsOut table w (Some made) told = IsSomeAnd told (HasNote table made.process w)
+HandsOut table w (Some made) told = IsSomeAnd told (HasNote table made w)
 
 -- what the writer knows then
-abbrev pub noted_for : Option plain.Spawned → WriterView → WriterView
+abbrev pub noted_for : Option ℕ → WriterView → WriterView
 noted_for None w = w
-noted_for (Some made) w = with_note made.process w
+noted_for (Some made) w = with_note made w
 
 -- nothing else of the tables has changed
-pub record KeepsButNote (made : Option plain.Spawned) (old new : Tables) : Type 0 where
+pub record KeepsButNote (made : Option ℕ) (old new : Tables) : Type 0 where
   pub view : written_by new.writer ≡ noted_for made (written_by old.writer)
   pub exports : new.exports ≡ old.exports
   pub index : new.index ≡ old.index

@@ -30,7 +30,6 @@ use Rattle.script_core.specs.declared.script.ScriptCmd.TheVariants.{Purge, SoftP
 use Rattle.run_log.specs.declared.logs.Entry.{Entry}
 use Rattle.run_law.specs.Answers.{IsAnswerKept}
 use Rattle.breakpoints.specs.Patches.{LoadsCounter}
-use Rattle.write_permit.specs.declared.answers.OpStep.TheVariants as steps
 use Rattle.write_permit.specs.declared.book.Book.{Book}
 use Rattle.write_permit.specs.declared.holder.Holder.{Holder}
 use Rattle.write_permit.specs.declared.holder.Holder.TheVariants.{Held, Purging}
@@ -43,6 +42,7 @@ use Rattle.word_permit.specs.declared.book.Decision.{Decision}
 use Rattle.word_permit.specs.declared.book.WordBook.{WordBook}
 use Rattle.word_permit.specs.declared.purging.Purged.{Purged}
 use Rattle.word_permit.specs.declared.purging.Purged.TheVariants.{Softly, Wholly}
+use Rattle.word_permit.specs.Answers.{TellsDrop}
 use Rattle.word_permit.specs.Books.{OpAnswers, PublishesNone}
 use Rattle.word_permit.specs.Looks.{HasLookedFor, IsLookTaken}
 use Rattle.word_permit.specs.Waiting.{GoesOverWords}
@@ -95,10 +95,11 @@ LeavesServer texts s cmd = (o : Outcome) → apply_of texts s cmd ≡ Some o →
 abbrev pub IsToldBy : ServerState → WriterView → WriterKept → Cmd → Type 0
 IsToldBy s w kept cmd = IsAnswerKept s (newest_number w.published) kept cmd
 
--- so it is once the drop of the old code is kept besides
+-- so it is once the drop of the old code is kept besides, and it tells of that drop
 abbrev pub IsToldByDrop : ServerState → WriterView → ℕ → Cmd → Type 0
 IsToldByDrop s w serial cmd =
-    (kept : WriterKept) → kept ≡ with_drop_kept w.looks (drop_of w Frame serial) → AgreesWithLooks w.looks (drop_of w Frame serial) → IsToldBy s w kept cmd
+    ((kept : WriterKept) → kept ≡ with_drop_kept w.looks (drop_of w Frame serial) → AgreesWithLooks w.looks (drop_of w Frame serial) → IsToldBy s w kept cmd)
+    × TellsDrop s (newest_number w.published) (drop_of w Frame serial) cmd
 
 -- ---- what a call leaves
 
@@ -184,7 +185,7 @@ RepliesSo cmd applied = Unit {0}
 -- the loader's command is done by this last command of the server, and the writer keeps what that tells of processes
 pub record EndsWith (who : ℕ) (cmd : Cmd) (old new : WordBook) (applied : Applied) : Type 0 where
   pub ends : EndsNext (shown old.plain) who cmd
-  pub step : command_ended (shown old.plain) who cmd ≡ Some (record { state = shown new.plain; answer = steps.Done applied })
+  pub step : command_ended (shown old.plain) who cmd ≡ Some (record { state = shown new.plain; answer = applied })
   pub reply : RepliesSo cmd applied
   pub told : IsToldBy old.plain.server (written_by old.tables.writer) (written_by new.tables.writer).looks cmd
   pub none : new.waiting ≡ None

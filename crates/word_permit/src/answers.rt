@@ -15,8 +15,9 @@ pub enum CommandStep {
     NotYet(NotYet),
     /// No block is free for what the command brings in, and one waits for its release.
     AwaitRelease,
-    /// The purge waits: this anchor of a process, its place counted from 1, named the old code for a frame, and `turn` is the turn word of its slot. Both
-    /// were loaded in this call. The next call looks again.
+    /// The purge waits, or the soft purge looks again: this anchor of a process, its place counted from 1, named the old code for a frame, and `turn` is the
+    /// turn word of its slot. Both were loaded in this call. Of a soft purge the anchor was loaded once more, and names the code no more. The next call looks
+    /// again.
     Lingers {
         process: u32,
         turn: u32,

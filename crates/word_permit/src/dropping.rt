@@ -4,7 +4,6 @@ ghost use Rattle.std.specs.Prelude.{◌≡◌, IfOk, None, OnErr, OnOk, Some};
 ghost use Rattle.marks.specs.declared.kept.LookKind.TheVariants.{Frame};
 ghost use Rattle.shared_words.specs.Slots.{IsClear};
 ghost use Rattle.progress_words.specs.Tokens.{written_by};
-ghost use Rattle.write_permit.specs.declared.answers.OpStep.TheVariants as steps;
 ghost use Rattle.write_permit.specs.Book.{IsBook, shown};
 ghost use Rattle.write_permit.specs.Permit.{command_ended, holder_of};
 ghost use Rattle.word_permit.specs.Books.{HasTakenBack, IsWordBook};
@@ -56,7 +55,7 @@ fn end_with(book: &mut Book, who: u32, cmd: Cmd) -> Result<Applied, NoMemory>
     requires book { IsBook book.old }
     requires holds { holder_of book.old.holder ≡ Some who }
     requires ends { EndsNext (shown book.old) who cmd }
-    ensures ok { IfOk result (λ applied. command_ended (shown book.old) who cmd ≡ Some (record { state = shown book.new; answer = steps.Done applied })) }
+    ensures ok { IfOk result (λ applied. command_ended (shown book.old) who cmd ≡ Some (record { state = shown book.new; answer = applied })) }
     ensures err { OnErr result (shown book.new ≡ shown book.old) }
     ensures book { IsBook book.new }
 {

@@ -40,9 +40,9 @@ pub fn make_next<K: Naming>(
     notes_keep_tables();
     notes_keep_pools();
     let made = make_at_once(&mut book.plain, who)?;
-    let spawned = noted(shared, &mut book.tables.writer, made.spawned);
+    let spawned = noted(shared, &mut book.tables.writer, made.1);
     Ok(AtOnce {
-        applied: made.applied,
+        applied: made.0,
         spawned,
     })
 }
@@ -51,16 +51,16 @@ pub fn make_next<K: Naming>(
 fn noted<K: Naming>(
     shared: &Shared<CodeLaw<K>>,
     writer: &mut Writer,
-    made: Option<write_permit::Spawned>,
+    made: Option<u32>,
 ) -> Option<Spawned>
     requires token { IsWriterOf shared.now.table.shared.table_id shared.now.table.shared.key writer.old }
-    requires may { IfSome made (λ s. MaySplitNote (written_by writer.old) s.process) }
+    requires may { IfSome made (MaySplitNote (written_by writer.old)) }
     ensures token { IsWriterOf shared.now.table.shared.table_id shared.now.table.shared.key writer.new }
     ensures view { written_by writer.new ≡ noted_for made (written_by writer.old) }
     ensures none { made ≡ None → writer.new ≡ writer.old }
     ensures spawned { HandsOut shared.now.table.shared.table_id (written_by writer.old) made result }
 {
-    let process = made?.process;
+    let process = made?;
     let note = note(shared, writer, process);
     Some(Spawned { process, note })
 }

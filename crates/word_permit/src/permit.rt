@@ -71,6 +71,7 @@ impl<K: Naming, N: RunName> Permit<K, N> {
         requires rest { AreAtRest K.names empty_state tables }
         requires opening { (written_by tables.writer).published ≡ opening_published ∷ [] }
         requires notes { (written_by tables.writer).notes ≡ [] }
+        requires drops { (written_by tables.writer).looks.dropped ≡ [] }
         ensures begun { IfOk result (λ p. IsBegun script tables p) }
         ensures kept { IfOk result (λ p. KeepsRun K.names N.run p) }
     {

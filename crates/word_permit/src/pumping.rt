@@ -1,6 +1,6 @@
 //! A retired area is released once no thread reads it and no slot names it.
 
-ghost use Rattle.std.specs.Prelude.{◌≡◌, ◌≤◌, [], length, IfErr, IfOk, IfSome, IsTrue, None, OnErr, OnOk, Some};
+ghost use Rattle.std.specs.Prelude.{◌≡◌, ◌≤◌, [], length, slice_get, unwrap_or, IfErr, IfOk, IfSome, IsTrue, None, OnErr, OnOk, Some};
 ghost use Rattle.marks.specs.declared.kept.LookKind.TheVariants.{Both};
 ghost use Rattle.shared_words.specs.Slots.{IsClear, LookMayBegin};
 ghost use Rattle.progress_words.specs.Needs.{IsBelow};
@@ -12,7 +12,7 @@ ghost use Rattle.word_permit.specs.declared.book.AreaNeed.{AreaNeed};
 ghost use Rattle.word_permit.specs.Books.{IsWordBook};
 ghost use Rattle.word_permit.specs.Looks.{KeepsLooks};
 ghost use Rattle.word_permit.specs.Needs.{IsAwaited};
-ghost use Rattle.word_permit.specs.Pumped.{HasReleased, LooksFound, PumpAnswers, ReleasesNone};
+ghost use Rattle.word_permit.specs.Pumped.{HasReleased, LooksFound, PumpAnswers, ReleasesNone, asked_behind};
 
 use crate::answers::Pumped;
 use crate::book::{AreaNeed, WordBook};
@@ -197,14 +197,24 @@ fn look_through<K: Naming>(book: &mut WordBook, shared: &Shared<CodeLaw<K>>, ser
     scan(shared, &mut book.tables.writer, area, None)
 }
 
-/// The area that was dropped next behind this one, or the one that has waited longest.
+/// The area that was dropped next behind this one, or else the one that has waited longest.
 fn next_behind(server: &Server, serial: u64) -> u64
     requires { IsTrue (is_retired server.now serial) }
-    ensures { IsTrue (is_retired server.now result) }
+    ensures waits { IsTrue (is_retired server.now result) }
+    ensures next { result ≡ asked_behind server.now.retired serial }
 {
-    if let Some(next) = server.retired_behind(serial) {
-        return next;
+    match server.retired_behind(serial) {
+        Some(next) => next,
+        None => longest(server, serial),
     }
+}
+
+/// The area that has waited longest, of which this is one.
+fn longest(server: &Server, serial: u64) -> u64
+    requires { IsTrue (is_retired server.now serial) }
+    ensures waits { IsTrue (is_retired server.now result) }
+    ensures longest { result ≡ unwrap_or (slice_get server.now.retired 0) serial }
+{
     match server.oldest_retired() {
         Some(oldest) => oldest,
         None => serial,
@@ -231,6 +241,5 @@ fn release_area<K: Naming>(
     clear_areas_are_releasable_while_settling::<K>();
     make(&mut book.plain, Who::Runtime, Cmd::Release(serial))?;
     release(&mut book.tables, shared, serial);
-    book.look = None;
     Ok(())
 }

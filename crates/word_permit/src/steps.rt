@@ -36,6 +36,7 @@ pub fn begin_book<K: Naming>(
     requires rest { AreAtRest K.names empty_state tables }
     requires opening { (written_by tables.writer).published ≡ opening_published ∷ [] }
     requires notes { (written_by tables.writer).notes ≡ [] }
+    requires drops { (written_by tables.writer).looks.dropped ≡ [] }
     ensures begun { IfOk result (IsBegun script tables) }
     ensures book { (table : TableId) (opening : Opening) → AreTablesOf table opening tables → IfOk result (IsWordBook K.names table opening) }
 {

@@ -15,7 +15,6 @@ use Rattle.script_core.proofs.SpawnLines.{number_further}
 use Rattle.run_log.specs.declared.logs.Who.{Who}
 use Rattle.run_log.specs.declared.logs.Who.TheVariants.{Loader, Runtime}
 use Rattle.write_permit.specs.declared.book.Book.{Book}
-use Rattle.write_permit.specs.declared.spawned.Spawned.{Spawned}
 use Rattle.write_permit.specs.declared.loader_run.LoaderRun.{LoaderRun}
 use Rattle.write_permit.specs.Agreement.{AgreesWithServer}
 use Rattle.write_permit.specs.Book.{IsBook, IsPermit, shown}
@@ -125,14 +124,14 @@ next_process p who l known found =
 
 -- the process that is told
 pub spawned_is : (p : PermitState) (who : ℕ) (command : ScriptCmd) (spawns : Bool) (n : ℕ) → next_of p who ≡ Some command → n ≡ spawn_number p.script.loaders who (done_of p.loaders who) → spawns ≡ is_spawn command
-    → (if spawns then Some (record { process = n }) else None) ≡ spawned_by p who (next_of p who)
+    → (if spawns then Some n else None) ≡ spawned_by p who (next_of p who)
 spawned_is p who command spawns n next is told = ap (λ b. chosen b) told ∙ by command ∙ ap (spawned_by p who) (sym next)
   where
-    chosen : Bool → Option Spawned
-    chosen b = if b then Some (record { process = n }) else None
+    chosen : Bool → Option ℕ
+    chosen b = if b then Some n else None
 
     by : (command : ScriptCmd) → chosen (is_spawn command) ≡ spawned_by p who (Some command)
-    by (Spawn target args) = ap (λ k. Some (record { process = k })) is
+    by (Spawn target args) = ap Some is
     by command = refl
 
 -- ---- the loader that is counted

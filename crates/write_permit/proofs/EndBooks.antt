@@ -13,8 +13,6 @@ use Rattle.script_core.specs.declared.script.ScriptCmd.{ScriptCmd}
 use Rattle.script_core.specs.declared.script.ScriptCmd.TheVariants.{Purge, Trace}
 use Rattle.run_log.specs.declared.logs.Who.TheVariants.{Loader}
 use Rattle.run_log.proofs.SpanRuns.{some_and, some_at}
-use Rattle.write_permit.specs.declared.answers.OpStep.{OpStep}
-use Rattle.write_permit.specs.declared.answers.OpStep.TheVariants.{Done}
 use Rattle.write_permit.specs.declared.book.Book.{Book}
 use Rattle.write_permit.specs.declared.commands.OldCode.{OldCode}
 use Rattle.write_permit.specs.declared.holder.Holder.{Holder}
@@ -22,29 +20,29 @@ use Rattle.write_permit.specs.declared.holder.Holder.TheVariants.{Free, Held, Pu
 use Rattle.write_permit.specs.declared.loader_run.LoaderRun.{LoaderRun}
 use Rattle.write_permit.specs.Agreement.{AgreesWithServer}
 use Rattle.write_permit.specs.Book.{EndsBy, HoldsJust, IsBook, IsHeld, PurgeWaits, TraceWaits, shown}
-use Rattle.write_permit.specs.Permit.{Advanced, PermitState, PermitStep, advanced, command_begun, counted_in, done_by, doomed_by, command_ended, entered_by, entered_trace, freed, given_up, holder_of, is_spawn, joined, loader_after, made_of, next_of, command_opening, purged_code, settled}
+use Rattle.write_permit.specs.Permit.{PermitState, PermitStep, advanced, command_begun, counted_in, done_by, doomed_by, command_ended, entered_by, entered_trace, freed, given_up, holder_of, is_spawn, joined, loader_after, made_of, next_of, command_opening, purged_code, settled}
 use Rattle.write_permit.proofs.BookKeeps.{book_by, count_same, was_made}
 use Rattle.write_permit.proofs.Ends.{CanEnd, can_end, code_of_module, counted_after, doom_keeps, end_keeps, ends_own, given_permit, settled_keeps, trace_keeps, waiting_code}
 use Rattle.write_permit.proofs.Entered.{entered_is}
 use Rattle.write_permit.proofs.Kept.{there}
 
 -- what is told, as an answer that is there
-abbrev pub told : PermitState → OpStep → Option Advanced
+abbrev pub told : PermitState → Applied → Option PermitStep
 told q a = Some (record { state = q; answer = a })
 
 -- ---- the last command of the server
 
 -- what was made and counted is what the call tells
 pub ended_is : (p m q : PermitState) (who : ℕ) (command : ScriptCmd) (cmd : Cmd) (answer : Applied) → next_of p who ≡ Some command → made_of p (Loader who) cmd ≡ Some (record { state = m; answer = answer })
-    → q ≡ record m { loaders = counted_in p.loaders who command; holder = Free } → command_ended p who cmd ≡ Some (record { state = q; answer = Done answer })
+    → q ≡ record m { loaders = counted_in p.loaders who command; holder = Free } → command_ended p who cmd ≡ Some (record { state = q; answer = answer })
 ended_is p m q who command cmd answer next made same =
-    ap (option_and_then {U = Advanced} (λ x. option_map {U = Advanced} freed (done_by p who x cmd))) next
-    ∙ ap (λ o. option_map {U = Advanced} freed (option_map {U = PermitStep} (λ s. record { state = record (s.state) { loaders = counted_in p.loaders who command }; answer = s.answer }) o)) made
-    ∙ ap (λ (x : PermitState). told (x) (Done answer)) (sym same)
+    ap (option_and_then {U = PermitStep} (λ x. option_map {U = PermitStep} freed (done_by p who x cmd))) next
+    ∙ ap (λ o. option_map {U = PermitStep} freed (option_map {U = PermitStep} (λ s. record { state = record (s.state) { loaders = counted_in p.loaders who command }; answer = s.answer }) o)) made
+    ∙ ap (λ (x : PermitState). told (x) answer) (sym same)
 
 -- what the last command of a loader's command leaves
 pub record EndMade (b c : Book) (who : ℕ) (cmd : Cmd) (answer : Applied) : Type 0 where
-  pub ok : command_ended (shown b) who cmd ≡ Some (record { state = shown c; answer = Done answer })
+  pub ok : command_ended (shown b) who cmd ≡ Some (record { state = shown c; answer = answer })
   pub book : IsBook c
 
 module _ (b : Book) (known : IsBook b) (who : ℕ) (cmd : Cmd) (ends : IsSomeAnd (next_of (shown b) who) (λ command. EndsBy (shown b) b.holder command cmd)) where
@@ -126,7 +124,7 @@ module _ (b : Book) (known : IsBook b) (who generation : ℕ) (target : Mfa) (on
 
 -- what the end of a trace leaves
 pub record SettleMade (b c : Book) (who generation : ℕ) : Type 0 where
-  pub ok : advanced (shown b) [] who b.holder ≡ Some (record { state = shown c; answer = Done (record { reply = replies.True; published = Some generation }) })
+  pub ok : advanced (shown b) [] who b.holder ≡ Some (record { state = shown c; answer = record { reply = replies.True; published = Some generation } })
   pub state : shown c ≡ (settled (shown b) who generation).state
   pub book : IsBook c
 
@@ -146,7 +144,7 @@ module _ (b : Book) (known : IsBook b) (who generation : ℕ) (held : b.holder �
       let counted : slice_set b.loaders.items who after ≡ entered_by (Tracing who generation) b.loaders.items = counted_after b.loaders.items who command after after_is ∙ sym (entered_is who generation trace_waits.target trace_waits.on b.loaders.items) in
       let left : shown c ≡ (settled (shown b) who generation).state = same ∙ ap (λ ls. record (shown b) { loaders = ls; holder = Free }) counted in
       record {
-        ok = ap (advanced (shown b) [] who) held ∙ ap (λ (x : PermitState). told x (Done (record { reply = replies.True; published = Some generation }))) (sym left);
+        ok = ap (advanced (shown b) [] who) held ∙ ap (λ (x : PermitState). told x (record { reply = replies.True; published = Some generation })) (sym left);
         state = left;
         book = book_by c (settled (shown b) who generation).state left (settled_keeps (shown b) known.permit who generation held)
             (subst (λ s. AgreesWithServer c.modules.instances s) (sym (ap (λ (x : PermitState). x.server) same)) (subst (λ ms. AgreesWithServer ms b.server) (sym table) known.agrees));
@@ -170,10 +168,10 @@ next_counted b who command l after spawns next found told is =
 -- ---- what a loader is told
 
 -- a command is made at once
-pub open_ok : (p : PermitState) (among : List Linger) (who : ℕ) (command : ScriptCmd) (cmd : Cmd) (r : Option Advanced) → next_of p who ≡ Some command → purged_code p.server command ≡ None → cmd ≡ command_opening p.server among command → command_ended p who cmd ≡ r
+pub open_ok : (p : PermitState) (among : List Linger) (who : ℕ) (command : ScriptCmd) (cmd : Cmd) (r : Option PermitStep) → next_of p who ≡ Some command → purged_code p.server command ≡ None → cmd ≡ command_opening p.server among command → command_ended p who cmd ≡ r
     → option_and_then (λ x. command_begun p among who x (purged_code p.server x)) (next_of p who) ≡ r
 open_ok p among who command cmd r next code is h =
-    ap (option_and_then {U = Advanced} (λ x. command_begun p among who x (purged_code p.server x))) next ∙ ap (command_begun p among who command) code ∙ ap (command_ended p who) (sym is) ∙ h
+    ap (option_and_then {U = PermitStep} (λ x. command_begun p among who x (purged_code p.server x))) next ∙ ap (command_begun p among who command) code ∙ ap (command_ended p who) (sym is) ∙ h
 
 -- ---- with what a command ends
 

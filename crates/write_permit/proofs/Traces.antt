@@ -10,7 +10,6 @@ use Rattle.server_core.specs.ServerState.{Entry, ServerState, is_traced, traceab
 use Rattle.server_core.specs.CommandTable.{Outcome, apply_of, published, trace_of, unchanged, with_trace}
 use Rattle.script_core.specs.declared.script.ScriptCmd.TheVariants.{Trace}
 use Rattle.run_log.specs.declared.logs.Who.TheVariants.{Loader}
-use Rattle.write_permit.specs.declared.answers.OpStep.TheVariants.{Done}
 use Rattle.write_permit.specs.declared.book.Book.{Book}
 use Rattle.write_permit.specs.declared.holder.Holder.{Holder}
 use Rattle.write_permit.specs.declared.holder.Holder.TheVariants.{Free, Held, Tracing}
@@ -88,11 +87,11 @@ module _ (p : PermitState) (known : IsPermit p) (who generation : ℕ) (target :
       let counted = left ∙ ap (λ ls. record m { loaders = ls; holder = Free }) (entered_is who generation target on p.loaders) in
       let made : made_of p (Loader who) cmd ≡ Some (record { state = m; answer = w.outcome.answer }) = ap (option_map {U = PermitStep} (λ x. record { state = joined p (Loader who) cmd x; answer = x.answer })) w.applied in
       let ended = ended_is p m (settled c who generation).state who (Trace target on) cmd w.outcome.answer next made counted in
-      ap (advanced p [] who) held ∙ open_ok p [] who (Trace target on) cmd _ next refl refl (ended ∙ ap (λ (a : Applied). told (settled c who generation).state (Done a)) answer)
+      ap (advanced p [] who) held ∙ open_ok p [] who (Trace target on) cmd _ next refl refl (ended ∙ ap (λ (a : Applied). told (settled c who generation).state a) answer)
 
 -- so a book whose trace is settled is told as one that made the trace at once
 pub traced_whole : (b c d : Book) (who generation : ℕ) (target : Mfa) (on : Bool) (applied : Applied) → IsBook b → b.holder ≡ Held who → next_of (shown b) who ≡ Some (Trace target on)
-    → entered_trace (shown b) who target on ≡ Some (shown c) → c.holder ≡ Tracing who generation → advanced (shown c) [] who c.holder ≡ Some (record { state = shown d; answer = Done applied })
-    → advanced (shown b) [] who b.holder ≡ Some (record { state = shown d; answer = Done applied })
+    → entered_trace (shown b) who target on ≡ Some (shown c) → c.holder ≡ Tracing who generation → advanced (shown c) [] who c.holder ≡ Some (record { state = shown d; answer = applied })
+    → advanced (shown b) [] who b.holder ≡ Some (record { state = shown d; answer = applied })
 traced_whole b c d who generation target on applied known held next entered tracing settles =
     trace_at_once (shown b) known.permit who generation target on held next (shown c) entered tracing ∙ sym (ap (advanced (shown c) [] who) tracing) ∙ settles

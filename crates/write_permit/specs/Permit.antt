@@ -1,6 +1,6 @@
 -- The permit: the script, the journal so far, the server to which it leads, how far each loader is, and who may change the code. And what each of its calls makes of it.
 -- Source: this project's profile; the phases of a purge are those of the manual page `erlang`, on `purge_module`. A call that has no case here is not made.
-use Rattle.std.specs.Prelude.{ℕ, suc, ◌+◌, Bool, true, false, List, [], ◌∷◌, ◌++◌, length, min, slice_get, slice_set, Option, Some, None, option_map, option_and_then, unwrap_or}
+use Rattle.std.specs.Prelude.{ℕ, ◌+◌, Bool, true, false, List, [], ◌∷◌, ◌++◌, slice_get, slice_set, Option, Some, None, option_map, option_and_then, unwrap_or}
 use Rattle.term_core.specs.declared.atom.AtomId.{AtomId}
 use Rattle.term_core.specs.declared.atom.Mfa.{Mfa}
 use Rattle.server_core.specs.declared.command.Applied.{Applied}
@@ -19,17 +19,12 @@ use Rattle.run_log.specs.declared.logs.Who.{Who}
 use Rattle.run_log.specs.declared.logs.Who.TheVariants.{Loader, Runtime}
 use Rattle.run_log.specs.declared.underway.HalfPurge.{HalfPurge}
 use Rattle.run_log.specs.Legal.{commands_of}
-use Rattle.write_permit.specs.declared.answers.OpStep.{OpStep}
-use Rattle.write_permit.specs.declared.answers.OpStep.TheVariants.{Done}
-use Rattle.write_permit.specs.declared.answers.Pumped.{Pumped}
-use Rattle.write_permit.specs.declared.answers.Pumped.TheVariants.{Released, Waiting, Nothing}
 use Rattle.write_permit.specs.declared.answers.Seize.{Seize}
 use Rattle.write_permit.specs.declared.answers.Seize.TheVariants as seizes
 use Rattle.write_permit.specs.declared.commands.OldCode.{OldCode}
 use Rattle.write_permit.specs.declared.holder.Holder.{Holder}
 use Rattle.write_permit.specs.declared.holder.Holder.TheVariants.{Free, Held, Purging, Tracing}
 use Rattle.write_permit.specs.declared.loader_run.LoaderRun.{LoaderRun}
-use Rattle.write_permit.specs.declared.spawned.Spawned.{Spawned}
 
 -- what a permit shows
 pub record PermitState : Type 0 where
@@ -150,23 +145,18 @@ abbrev pub at_once_of : PermitState → ℕ → Option PermitStep
 at_once_of p who = option_and_then (λ command. done_by p who command (command_opening p.server [] command)) (next_of p who)
 
 -- the process that a loader's next command makes, if it makes one: its number is that of the spawn line
-abbrev pub spawned_by : PermitState → ℕ → Option ScriptCmd → Option Spawned
-spawned_by p who (Some (Spawn target args)) = Some (record { process = spawn_number p.script.loaders who (done_of p.loaders who) })
+abbrev pub spawned_by : PermitState → ℕ → Option ScriptCmd → Option ℕ
+spawned_by p who (Some (Spawn target args)) = Some (spawn_number p.script.loaders who (done_of p.loaders who))
 spawned_by p who command = None
 
 -- ---- commands that need the permission
 
--- a permit after a call, with what the loader is told
-pub record Advanced : Type 0 where
-  pub state : PermitState
-  pub answer : OpStep
-
 -- a loader's command is done: the permission is free
-abbrev pub freed : PermitStep → Advanced
-freed s = record { state = record (s.state) { holder = Free }; answer = Done s.answer }
+abbrev pub freed : PermitStep → PermitStep
+freed s = record { state = record (s.state) { holder = Free }; answer = s.answer }
 
 -- a loader's next command is done by this last command of the server
-abbrev pub command_ended : PermitState → ℕ → Cmd → Option Advanced
+abbrev pub command_ended : PermitState → ℕ → Cmd → Option PermitStep
 command_ended p who cmd = option_and_then (λ command. option_map freed (done_by p who command cmd)) (next_of p who)
 
 -- the old code that a command purges in two halves: that of a purge, where there is some
@@ -184,17 +174,17 @@ entered_trace p who target on =
     option_and_then (λ s. option_map (λ generation. record (s.state) { holder = Tracing who generation }) s.answer.published) (made_of p (Loader who) (cmds.Trace target on))
 
 -- then it is done, with the answer of its entry
-abbrev pub settled : PermitState → ℕ → ℕ → Advanced
+abbrev pub settled : PermitState → ℕ → ℕ → PermitStep
 settled p by generation =
-    record { state = record p { loaders = entered_by (Tracing by generation) p.loaders; holder = Free }; answer = Done (record { reply = replies.True; published = Some generation }) }
+    record { state = record p { loaders = entered_by (Tracing by generation) p.loaders; holder = Free }; answer = record { reply = replies.True; published = Some generation } }
 
 -- a command is done that purges no old code
-abbrev pub command_begun : PermitState → List Linger → ℕ → ScriptCmd → Option OldCode → Option Advanced
+abbrev pub command_begun : PermitState → List Linger → ℕ → ScriptCmd → Option OldCode → Option PermitStep
 command_begun p among who command None = command_ended p who (command_opening p.server among command)
 command_begun p among who command (Some code) = None
 
 -- the loader that has the permission goes on with its next command to its end, where that purges no old code
-abbrev pub advanced : PermitState → List Linger → ℕ → Holder → Option Advanced
+abbrev pub advanced : PermitState → List Linger → ℕ → Holder → Option PermitStep
 advanced p among who Free = None
 advanced p among who (Held by) = option_and_then (λ command. command_begun p among who command (purged_code p.server command)) (next_of p who)
 advanced p among who (Purging by name) = None
@@ -202,17 +192,6 @@ advanced p among who (Tracing by generation) = Some (settled p by generation)
 
 -- ---- areas
 
--- a permit after a call, with what became of the areas
-pub record PumpStep : Type 0 where
-  pub state : PermitState
-  pub answer : Pumped
-
--- how many areas wait, as it is told
-abbrev pub waiting_count : List ℕ → Pumped
-waiting_count [] = Nothing
-waiting_count (serial ∷ serials) = Waiting (min (suc (length serials)) 4294967295)
-
--- an area that no process names is released, if there is one
-abbrev pub pumped : PermitState → Option ℕ → Option PumpStep
-pumped p None = Some (record { state = p; answer = waiting_count p.server.retired })
-pumped p (Some serial) = option_map (λ s. record { state = s.state; answer = Released serial }) (made_of p Runtime (cmds.Release serial))
+-- the runtime releases an area
+abbrev pub released_by : PermitState → ℕ → Option PermitState
+released_by p serial = option_map (λ s. s.state) (made_of p Runtime (cmds.Release serial))

@@ -10,11 +10,9 @@ pub mod gate;
 pub mod holder;
 mod loader_run;
 pub mod operations;
-mod spawned;
 pub mod steps;
 
-pub use answers::{AtOnce, OpStep, Pumped, Seize};
+pub use answers::Seize;
 pub use gate::{Gate, NoGate, Place};
 pub use holder::Holder;
 pub use loader_run::LoaderRun;
-pub use spawned::Spawned;

@@ -2,7 +2,6 @@ ghost use Rattle.std.specs.Prelude.{◌≡◌, ◌<◌, [], length, slice_get, s
 ghost use Rattle.write_permit.specs.Book.{IsBook, shown};
 ghost use Rattle.write_permit.specs.Permit.{advanced, loader_after, next_of, settled};
 
-use crate::answers::OpStep;
 use crate::book::Book;
 use crate::commands::is_spawn;
 use crate::holder::Holder;
@@ -50,7 +49,7 @@ pub fn set_tracing(book: &mut Book, who: u32, generation: u64)
 pub fn settle(book: &mut Book, who: u32, generation: u64) -> Applied
     requires book { IsBook book.old }
     requires tracing { book.old.holder ≡ Holder.Tracing who generation }
-    ensures ok { advanced (shown book.old) [] who book.old.holder ≡ Some (record { state = shown book.new; answer = OpStep.Done result }) }
+    ensures ok { advanced (shown book.old) [] who book.old.holder ≡ Some (record { state = shown book.new; answer = result }) }
     ensures answer { result ≡ record { reply = Reply.True; published = Some generation } }
     ensures state { shown book.new ≡ (settled (shown book.old) who generation).state }
     ensures table { book.new.modules ≡ book.old.modules }

@@ -3,13 +3,12 @@ ghost use Rattle.std.specs.Option.{option_copied};
 ghost use Rattle.write_permit.specs.Book.{IsBook, shown};
 ghost use Rattle.write_permit.specs.Permit.{at_once_of, done_of, needs_permission, next_of, spawned_by};
 
-use crate::answers::AtOnce;
 use crate::book::{Book, make};
 use crate::commands::{is_spawn, opening};
 use crate::loader_run::LoaderRun;
-use crate::spawned::Spawned;
 use run_log::Who;
 use script_core::ScriptCmd;
+use server_core::Applied;
 use term_core::NoMemory;
 
 /// The first command of a loader that is not done.
@@ -49,12 +48,12 @@ fn has_next(book: &Book, who: u32) -> bool
     next_command(book, who).is_some()
 }
 
-/// Makes the next command of a loader, which needs no permission.
-pub fn make_at_once(book: &mut Book, who: u32) -> Result<AtOnce, NoMemory>
+/// Makes the next command of a loader, which needs no permission. With its answer the number of the process is told, where it is a spawn.
+pub fn make_at_once(book: &mut Book, who: u32) -> Result<(Applied, Option<u32>), NoMemory>
     requires book { IsBook book.old }
     requires next { IsSomeAnd (next_of (shown book.old) who) (λ command. needs_permission command ≡ false) }
-    ensures ok { IfOk result (λ a. at_once_of (shown book.old) who ≡ Some (record { state = shown book.new; answer = a.applied })) }
-    ensures spawned { IfOk result (λ a. a.spawned ≡ spawned_by (shown book.old) who (next_of (shown book.old) who)) }
+    ensures ok { IfOk result (λ a. at_once_of (shown book.old) who ≡ Some (record { state = shown book.new; answer = a.0 })) }
+    ensures spawned { IfOk result (λ a. a.1 ≡ spawned_by (shown book.old) who (next_of (shown book.old) who)) }
     ensures err { OnErr result (shown book.new ≡ shown book.old) }
     ensures book { IsBook book.new }
 {
@@ -67,18 +66,14 @@ pub fn make_at_once(book: &mut Book, who: u32) -> Result<AtOnce, NoMemory>
     let loader = &mut book.loaders[who as usize];
     let spawned = spawned(loader.next_process as u32, spawns);
     count(loader, spawns);
-    Ok(AtOnce { applied, spawned })
+    Ok((applied, spawned))
 }
 
-/// The process with this number, where the command makes one.
-fn spawned(process: u32, spawns: bool) -> Option<Spawned>
-    ensures { result ≡ (if spawns then Some (record { process = process }) else None) }
+/// The number, where the command makes a process.
+fn spawned(process: u32, spawns: bool) -> Option<u32>
+    ensures { result ≡ (if spawns then Some process else None) }
 {
-    if spawns {
-        Some(Spawned { process })
-    } else {
-        None
-    }
+    if spawns { Some(process) } else { None }
 }
 
 /// One command more of the loader is done.

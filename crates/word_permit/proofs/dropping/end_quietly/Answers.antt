@@ -3,6 +3,7 @@ use Rattle.std.proofs.Common.{refl}
 use Rattle.write_permit.specs.Book.{shown}
 use Rattle.word_permit.proofs.Calls.{kept_shown}
 use Rattle.word_permit.proofs.PurgeCalls.{quiet_end}
+use Rattle.word_permit.proofs.PurgeCommands.{ends_spawnless}
 use Rattle.word_permit.proofs.Replies.{ended_reply}
 use Rattle.word_permit.proofs.dropping.end_quietly.Goals as goal
 
@@ -15,6 +16,7 @@ returns-in-Ok-clause-ok g c = record { ends = c.requires.ends; step = c.in-Ok.en
 pub returns-in-Ok-clause-book : goal.returns-in-Ok-clause-book
 returns-in-Ok-clause-book g c =
     quiet_end g.K.Naming.names _ _ c.args.book.now c.end_with.new.book c.args.who c.args.cmd _ c.requires.book c.requires.none c.end_with.ensures.book c.requires.ends c.in-Ok.ensures.ok c.requires.leaves c.requires.told
+    (ends_spawnless (shown c.args.book.now.plain) c.args.who c.args.cmd c.requires.book.has.book.permit.holds c.requires.holds c.requires.ends)
 
 pub returns-in-Err-clause-err : goal.returns-in-Err-clause-err
 returns-in-Err-clause-err g c = record { same = c.in-Err.ensures.err; published = refl; none = c.requires.none }

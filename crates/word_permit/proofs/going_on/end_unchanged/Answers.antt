@@ -5,8 +5,8 @@ use Rattle.server_core.specs.CommandTable.{Outcome}
 use Rattle.run_log.specs.declared.logs.Entry.{Entry}
 use Rattle.write_permit.specs.Agreement.{new_modules}
 use Rattle.write_permit.specs.Permit.{PermitState}
-use Rattle.word_permit.specs.Books.{TellsNone}
-use Rattle.word_permit.proofs.Answered.{goes_quiet}
+use Rattle.word_permit.specs.Books.{SpawnsNone, TellsNone}
+use Rattle.word_permit.proofs.Answered.{goes_quiet, goes_spawnless}
 use Rattle.word_permit.proofs.Ended.{can_follow, plain_done}
 use Rattle.word_permit.proofs.Followed.{leaves_state}
 use Rattle.word_permit.proofs.going_on.end_unchanged.Goals as goal
@@ -49,7 +49,10 @@ returns-clause-journal c =
         ap (λ (x : PermitState). x.journal) c.finish_change.ensures.state ∙ c.in_ok-take_room.ensures.ok,
         (
           ap (λ (e : Entry). e.published) c.entry_of-entry.ensures ∙ ap (λ (a : Applied). a.published) (sym c.requires.decided.answer) ∙ l.published,
-          subst TellsNone (sym (ap (λ (e : Entry). e.cmd) c.entry_of-entry.ensures ∙ c.requires.decided.cmd_is)) (goes_quiet c.args.book.now.server c.requires.decided.command c.requires.decided.goes),
+          (
+            subst TellsNone (sym (ap (λ (e : Entry). e.cmd) c.entry_of-entry.ensures ∙ c.requires.decided.cmd_is)) (goes_quiet c.args.book.now.server c.requires.decided.command c.requires.decided.goes),
+            subst SpawnsNone (sym (ap (λ (e : Entry). e.cmd) c.entry_of-entry.ensures ∙ c.requires.decided.cmd_is)) (goes_spawnless c.args.book.now.server c.requires.decided.command c.requires.decided.goes),
+          ),
         ),
       ),
     )

@@ -20,4 +20,4 @@ returns-clause-begun g c = record {
 pub returns-clause-book : goal.returns-clause-book
 returns-clause-book g c = λ table opening of.
     begun_word_book g.K.Naming.names table opening _ c.in_ok-begin.ensures.book (subst (λ (s : Script). All (IsNumbered g.K.Naming.names) s.modules) (sym c.in_ok-begin.ensures.script) c.requires.texts) of c.requires.exports
-    c.in_ok-begin.ensures.journal c.in_ok-begin.ensures.server c.in_ok-begin.ensures.holder c.requires.opening c.requires.notes c.requires.rest refl refl refl
+    c.in_ok-begin.ensures.journal c.in_ok-begin.ensures.server c.in_ok-begin.ensures.holder c.requires.opening c.requires.notes c.requires.drops c.requires.rest refl refl refl
