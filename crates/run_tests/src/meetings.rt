@@ -72,7 +72,7 @@ fn two_turns_meet(rt: HostRuntime) -> Result<(), Fail> {
     let meeting = Meeting::new();
     let ran = run_script(&rt, alloc, &script, 2, &meeting)?;
     assert_eq!(rt; meeting.missed.load(Ordering::SeqCst), 0);
-    let report = report_of(&rt, alloc, &script, &ran.log)?;
+    let report = report_of(alloc, &script, &ran.log)?;
     assert!(rt; report.as_slice().ends_with(TWO_ENDS.as_bytes()));
     assert_eq!(rt; ran.closed.published(), 0);
     Ok(())

@@ -1,4 +1,3 @@
-use crate::reports::report_of;
 use script_text::read_script;
 use std::alloc::Global;
 use std::sync::atomic::{AtomicU64, Ordering};
@@ -225,7 +224,6 @@ fn held_turn_sees_commit(rt: HostRuntime) -> Result<(), Fail> {
         let overlap = Overlap::new(before);
         let ran = run_script(&rt, alloc, &script, 2, &overlap)?;
         assert!(rt; overlap.has_come(), "{command}{purge}");
-        let _ = report_of(&rt, alloc, &script, &ran.log)?;
         assert_eq!(rt; ran.closed.published(), published, "{command}{purge}");
     }
     Ok(())

@@ -1,11 +1,7 @@
-ghost use Rattle.script_core.specs.Sound.{IsScript};
-
-use legality::legal;
 use run_log::{RunLog, render};
 use script_core::Script;
 use script_text::read_script;
 use std::alloc::Global;
-use std::process::Abort;
 use std::test::Fail;
 use term_core::{ByteList, NoMemory};
 use word_run::run_script;
@@ -73,7 +69,7 @@ fn observers_have_their_snapshots(rt: HostRuntime) -> Result<(), Fail> {
     let script = read_script(alloc, TWO_OBSERVERS.as_bytes())?;
     for schedulers in [1, 2, 16] {
         let ran = run_script(&rt, alloc, &script, schedulers, &NoGate)?;
-        let report = report_of(&rt, alloc, &script, &ran.log)?;
+        let report = report_of(alloc, &script, &ran.log)?;
         assert_eq!(rt; report.as_slice(), TWO_OBSERVERS_REPORT.as_bytes());
         assert_eq!(rt; ran.closed.published(), 0);
     }
@@ -86,24 +82,15 @@ fn a_run_has_its_report(rt: HostRuntime) -> Result<(), Fail> {
     let script = read_script(alloc, TWO_PROCESSES.as_bytes())?;
     for schedulers in [1, 2, 16] {
         let ran = run_script(&rt, alloc, &script, schedulers, &NoGate)?;
-        let report = report_of(&rt, alloc, &script, &ran.log)?;
+        let report = report_of(alloc, &script, &ran.log)?;
         assert_eq!(rt; report.as_slice(), TWO_PROCESSES_REPORT.as_bytes());
         assert_eq!(rt; ran.closed.published(), 2);
     }
     Ok(())
 }
 
-/// The report of a run's log, which must be lawful for its script.
-pub fn report_of(
-    rt: &impl Abort,
-    alloc: Global,
-    script: &Script,
-    log: &RunLog,
-) -> Result<ByteList, NoMemory>
-    requires { IsScript script.now }
-{
-    let lawful = legal(alloc, script, log)?;
-    assert!(rt; lawful, "the log of a run");
+/// The report of a run's log. That the log is lawful is what a run's contract says.
+pub fn report_of(alloc: Global, script: &Script, log: &RunLog) -> Result<ByteList, NoMemory> {
     let mut text = ByteList::new(alloc);
     render(&script.names, log, &mut text)?;
     Ok(text)

@@ -56,7 +56,7 @@ learnt_already n m few = ap (λ (b : Bool). record m { seen = if b then n.seen e
 
 -- ---- the numbers of notes
 
-note_stays : (notes : List NoteNumber) (n : NoteNumber) (p published : ℕ) → note_in notes p ≡ Some published → note_in (notes ++ n ∷ []) p ≡ Some published
+pub note_stays : (notes : List NoteNumber) (n : NoteNumber) (p published : ℕ) → note_in notes p ≡ Some published → note_in (notes ++ n ∷ []) p ≡ Some published
 note_stays [] n p published is = absurd (none-some published is)
 note_stays (m ∷ notes) n p published is = by_test (m.process == p) (note_stays notes n p published) is
   where

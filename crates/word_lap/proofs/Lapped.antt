@@ -141,7 +141,7 @@ lead_keeps functions opening old new taken processes tried h = record {
 -- ---- the process that had its turn
 
 -- name, target and arguments of a process stay
-kept_as : (r : Reads) (p : PlainProcess) → ((turn_by r p).process.target ≡ p.target) × ((turn_by r p).process.args ≡ p.args)
+pub kept_as : (r : Reads) (p : PlainProcess) → ((turn_by r p).process.target ≡ p.target) × ((turn_by r p).process.args ≡ p.args)
 kept_as r p = by_test (p.turns == MOST_TURNS)
   where
     by_test : (b : Bool) → ((turn_from (if b then p else record p { turns = p.turns + 1 }) (ran_of r p)).process.target ≡ p.target) × ((turn_from (if b then p else record p { turns = p.turns + 1 }) (ran_of r p)).process.args ≡ p.args)

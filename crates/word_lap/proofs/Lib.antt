@@ -12,6 +12,8 @@ pub mod Lapped
 pub mod Arrivals
 pub mod Welcomes
 pub mod TurnsOfLap
+pub mod MadeOn
+pub mod RowTurns
 pub mod Beginnings
 pub mod FirstSerials
 pub mod HavingRun

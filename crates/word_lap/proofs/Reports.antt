@@ -58,7 +58,7 @@ knowing_again : (c d : ℕ) (r : Role) → role_knowing d (role_knowing c r) ≡
 knowing_again c d Follows = refl
 knowing_again c d (Leads scans) = refl
 
-begins_through : (a b c : List Published) → IsBeginning a b → IsBeginning b c → IsBeginning a c
+pub begins_through : (a b c : List Published) → IsBeginning a b → IsBeginning b c → IsBeginning a c
 begins_through a b c first second = (first.0 ++ second.0, second.1 ∙ ap (λ (xs : List Published). xs ++ second.0) first.1 ∙ append_assoc a first.0 second.0)
 
 -- two reports are one by what they leave

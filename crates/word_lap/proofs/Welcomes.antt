@@ -1,16 +1,22 @@
--- A process that comes to its place while its member reports and learns its note.
+-- A process that comes to its place while its member reports and learns its note, and no process has a turn.
 use Rattle.std.proofs.Common.{◌≡◌, ◌≢◌, ℕ, ◌<◌, ◌≤◌, ◌%◌, List, [], ◌∷◌, ◌++◌, length, Option, Some, None, refl, sym, ap, subst, ◌∙◌, arith}
-use Rattle.std.specs.Prelude.{IsTrue, IsSomeAnd, ◌==◌, not, slice_set}
+use Rattle.std.specs.Prelude.{IsTrue, IsSomeAnd, ◌==◌, not, slice_get, slice_set, unwrap_or}
 use Rattle.std.proofs.lemmas.Bool.{and_from, eq-eqb, ne_eqb, not_from_false}
+use Rattle.std.proofs.lemmas.List.{append-nil}
+use Rattle.std.proofs.lemmas.Option.{none-some}
+use mathlib.Core.Logic.{dite}
+use native.Mathlib.Decide.{ℕ_discrete}
 use Rattle.atomic_table.specs.Seated.{TableId}
 use Rattle.term_core.specs.declared.atom.Mfa.{Mfa}
 use Rattle.area_core.specs.declared.map.TheConstants.{PROCESSES}
+use Rattle.area_core.specs.declared.table.Published.{Published}
 use Rattle.shared_words.specs.declared.opening.Opening.{Opening}
 use Rattle.shared_words.specs.declared.seats.Member as tokens
 use Rattle.shared_words.specs.declared.seats.Note as notes
 use Rattle.shared_words.specs.declared.view.MemberView.{MemberView}
 use Rattle.shared_words.specs.Notes.{note_joined}
-use Rattle.shared_words.specs.Processes.{held_by_view}
+use Rattle.shared_words.specs.Processes.{held_by_view, note_in}
+use Rattle.shared_words.specs.Rule.{IsBeginning}
 use Rattle.shared_words.specs.Views.{newest_number, published_at}
 use Rattle.progress_words.specs.Reports.{HoldsReported}
 use Rattle.progress_words.specs.Tokens.{IsMemberOf, IsNoteOf, IsSameMember, noted_by}
@@ -19,13 +25,14 @@ use Rattle.inbox.specs.Ends.{Taking, took}
 use Rattle.area_core.specs.Readers.{is_slot_of}
 use Rattle.area_core.specs.declared.readers.Slots.TheVariants.{OfMember}
 use Rattle.code_law.specs.Served.{IsServed}
+use Rattle.run_log.proofs.ListPlaces.{set_here, set_there}
 use Rattle.run_law.specs.Newcomers.{SpawnedProcess}
 use Rattle.word_lap.specs.declared.process_run.ProcessRun.{ProcessRun}
 use Rattle.word_lap.specs.Newcomers.{IsNoted, IsNotedIn}
 use Rattle.word_lap.specs.Schedulers.{IsBetweenTurns, IsToken, KeepsProcesses}
-use Rattle.word_lap.specs.Taking.{BelongsNot, IsFreeFor}
-use Rattle.word_lap.proofs.Arrivals.{comes_here, learnt_already, let_go, newcomer_held}
-use Rattle.word_lap.proofs.Reports.{report_keeps}
+use Rattle.word_lap.specs.Taking.{BelongsNot, CameAt, HaveCome, IsFreeFor, IsNew, OnlyCame, TurnsNone, as_before, came_here}
+use Rattle.word_lap.proofs.Arrivals.{comes_here, learnt_already, let_go, newcomer_held, note_stays}
+use Rattle.word_lap.proofs.Reports.{begins_through, report_keeps}
 use Rattle.word_lap.proofs.Tokens.{token_moved}
 
 -- ---- the note
@@ -104,7 +111,74 @@ module _ (functions : List Mfa) (opening : Opening) (table : TableId) (old mid n
         let all = comes_here functions opening m taken spawn (noted_by note).note run process_is processes held here in
         subst (λ (x : MemberView). KeepsProcesses functions opening x (taken ++ spawn ∷ []) (slice_set processes spawn.number (Some run))) (sym view_is) all
 
+    -- and none had a turn
+    none_turned : TurnsNone (view_of old) (view_of new)
+    none_turned = record {
+      slots = slots_are ∙ ap (λ (x : MemberView). x.slots) r.view;
+      learnt = subst (λ (seen : List Published). IsBeginning (view_of old).seen seen) (sym (ap (λ (x : MemberView). x.seen) view_is)) r.learnt;
+      notes = λ p published at. ap (λ (x : MemberView). note_in x.notes p) view_is ∙ note_stays m.notes (noted_by note).note p published (ap (λ (x : MemberView). note_in x.notes p) r.view ∙ at);
+      number = ap (λ (x : MemberView). x.member.number) view_is ∙ ap (λ (x : MemberView). x.member.number) r.view;
+    }
+
+    new_here : IsNew run
+    new_here = record { turns = fresh.turns; frames = fresh.frames; spans = fresh.spans; going = fresh.fin }
+
+    abbrev placed : List (Option ProcessRun)
+    placed = slice_set processes spawn.number (Some run)
+
+    only_here : OnlyCame processes placed
+    only_here p place at = dite (ℕ_discrete p spawn.number)
+        (λ (same : p ≡ spawn.number).
+        let was : place ≡ None = ap (λ (o : Option (Option ProcessRun)). unwrap_or o None) (sym at ∙ ap (slice_get processes) same ∙ free.free) in
+        (Some run, (ap (slice_get placed) same ∙ set_here processes spawn.number None (Some run) free.free, came_here run was refl new_here)))
+        (λ (apart : p ≡ spawn.number → ⊥). (place, (set_there processes spawn.number (Some run) p apart ∙ at, as_before refl)))
+
+    pub welcome_comes : HaveCome (view_of old) (view_of new) processes placed
+    welcome_comes = record { none = none_turned; places = only_here }
+
 -- ---- one after another
+
+-- nobody came
+none_turns : (m : MemberView) → TurnsNone m m
+none_turns m = record { slots = refl; learnt = ([], sym (append-nil m.seen)); notes = λ p published at. at; number = refl }
+
+pub none_come : (m : MemberView) (processes : List (Option ProcessRun)) → HaveCome m m processes processes
+none_come m processes = record { none = none_turns m; places = λ p place at. (place, (at, as_before refl)) }
+
+pub turns_none_on : (a b c : MemberView) → TurnsNone a b → TurnsNone b c → TurnsNone a c
+turns_none_on a b c first second = record {
+  slots = second.slots ∙ first.slots;
+  learnt = begins_through a.seen b.seen c.seen first.learnt second.learnt;
+  notes = λ p published at. second.notes p published (first.notes p published at);
+  number = second.number ∙ first.number;
+}
+
+came_on : (x y z : Option ProcessRun) → CameAt x y → CameAt y z → CameAt x z
+came_on x y z (as_before is) (as_before then) = as_before (then ∙ is)
+came_on x y z (as_before is) (came_here run none now new) = came_here run (sym is ∙ none) now new
+came_on x y z (came_here run none now new) (as_before then) = came_here run none (then ∙ now) new
+came_on x y z (came_here run none now new) (came_here other gone is later) = absurd (none-some run (sym gone ∙ now))
+
+pub have_come_on : (a b c : MemberView) (xs ys zs : List (Option ProcessRun)) → HaveCome a b xs ys → HaveCome b c ys zs → HaveCome a c xs zs
+have_come_on a b c xs ys zs first second = record {
+  none = turns_none_on a b c first.none second.none;
+  places = λ p place at.
+      let one = first.places p place at in
+      let two = second.places p one.0 one.1.0 in
+      (two.0, (two.1.0, came_on place one.0 two.0 one.1.1 two.1.1));
+}
+
+-- a report behind them
+pub come_reported : (Served : Published → Type 0) (a b c : MemberView) (generation : ℕ) (xs ys : List (Option ProcessRun)) → HaveCome a b xs ys → HoldsReported Served b c generation → HaveCome a c xs ys
+come_reported Served a b c generation xs ys h r = record {
+  none = turns_none_on a b c h.none (record {
+    slots = ap (λ (m : MemberView). m.slots) r.view;
+    learnt = r.learnt;
+    notes = λ p published at. ap (λ (m : MemberView). note_in m.notes p) r.view ∙ at;
+    number = ap (λ (m : MemberView). m.member.number) r.view;
+  });
+  places = h.places;
+}
 
 -- what does not belong here is let go
 pub let_go_keeps : (functions : List Mfa) (table : TableId) (opening : Opening) (token : tokens.Member) (spawn : SpawnedProcess) (processes : List (Option ProcessRun)) → IsToken table token → BelongsNot spawn.number token.number opening.members processes
@@ -127,16 +201,18 @@ pub record TakenSteps (functions : List Mfa) (table : TableId) (opening : Openin
   pub inbox : after.number ≡ before.number
   pub told : after.told ≡ before.told
   pub kept : KeepsProcesses functions opening (view_of old) before.taken was → KeepsProcesses functions opening (view_of new) after.taken now
+  pub came : HaveCome (view_of old) (view_of new) was now
 
 module _ (functions : List Mfa) (table : TableId) (opening : Opening) (old : tokens.Member) (before : Taking SpawnedProcess) (was : List (Option ProcessRun)) where
   pub taken_begins : IsToken table old → IsBetweenTurns (view_of old) → length was ≡ PROCESSES → TakenSteps functions table opening old old before before was was
-  taken_begins token between all = record { token = token; number = refl; between = between; all = all; inbox = refl; told = refl; kept = λ h. h }
+  taken_begins token between all = record { token = token; number = refl; between = between; all = all; inbox = refl; told = refl; kept = λ h. h; came = none_come (view_of old) was }
 
   pub taken_goes_on : (mid new : tokens.Member) (at after : Taking SpawnedProcess) (now later : List (Option ProcessRun)) (spawn : SpawnedProcess) → TakenSteps functions table opening old mid before at was now → after ≡ took at spawn → IsToken table new
       → new.number ≡ mid.number → IsBetweenTurns (view_of new) → length later ≡ PROCESSES
       → ((taken : List SpawnedProcess) → KeepsProcesses functions opening (view_of mid) taken now → KeepsProcesses functions opening (view_of new) (taken ++ spawn ∷ []) later)
+      → HaveCome (view_of mid) (view_of new) now later
       → TakenSteps functions table opening old new before after was later
-  taken_goes_on mid new at after now later spawn h is token number between all kept = record {
+  taken_goes_on mid new at after now later spawn h is token number between all kept came = record {
     token = token;
     number = number ∙ h.number;
     between = between;
@@ -144,4 +220,5 @@ module _ (functions : List Mfa) (table : TableId) (opening : Opening) (old : tok
     inbox = ap (λ (t : Taking SpawnedProcess). t.number) is ∙ h.inbox;
     told = ap (λ (t : Taking SpawnedProcess). t.told) is ∙ h.told;
     kept = λ first. subst (λ (t : Taking SpawnedProcess). KeepsProcesses functions opening (view_of new) t.taken later) (sym is) (kept at.taken (h.kept first));
+    came = have_come_on (view_of old) (view_of mid) (view_of new) was now later h.came came;
   }

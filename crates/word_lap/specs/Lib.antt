@@ -6,4 +6,5 @@ pub mod Waiting
 pub mod Turning
 pub mod LapTurns
 pub mod Taking
+pub mod RowTurns
 pub mod Laws

@@ -70,9 +70,9 @@ pub fn take_turns<N: Served, G: Gate>(
     ensures number { IfOk result.1 (λ _. result.0.number ≡ member.number) }
     ensures between { IfOk result.1 (λ _. IsBetweenTurns (view_of result.0)) }
     ensures same { IfOk result.1 (λ _. HoldsAsBefore (view_of member) (view_of result.0)) }
-    // each process that goes on had one turn, and each other one is as it was
+    // each process that goes on had one turn, which left its mark, and each other one is as it was
     ensures kept { IfOk result.1 (λ _. HadTurns exports.now shared.now.table.shared.key (view_of member) (view_of result.0) processes.old.items processes.new.items) }
-    ensures turns { IfOk result.1 (λ _. HaveGoneOn exports.now (view_of member) processes.old.items processes.new.items) }
+    ensures turns { IfOk result.1 (λ _. HaveGoneOn exports.now (view_of member) (view_of result.0) processes.old.items processes.new.items) }
 {
     let mut member = member;
     for at in 0..processes.len() {

@@ -5,7 +5,7 @@ ghost use mathlib.Core.List.{IsPrefix};
 ghost use Rattle.shared_words.specs.declared.table.TheConstants.{PROCESSES};
 ghost use Rattle.anchors.specs.Holds.{view_of};
 ghost use Rattle.word_lap.specs.Schedulers.{IsBetweenTurns, IsToken};
-ghost use Rattle.word_lap.specs.Taking.{BelongsNot, IsFreeFor, KeepsOneMore, KeepsWhatCame};
+ghost use Rattle.word_lap.specs.Taking.{BelongsNot, HaveCome, IsFreeFor, KeepsOneMore, KeepsWhatCame};
 
 use crate::newcomer::{Newcomer, begin};
 use crate::process_run::ProcessRun;
@@ -31,7 +31,8 @@ fn belongs(number: u32, member: u32, members: u32, processes: &[Option<ProcessRu
     processes[number as usize].is_none()
 }
 
-/// A process that belongs here comes to its place: the member reports up to the generation that was the newest when it was spawned, and learns its note.
+/// A process that belongs here comes to its place: the member reports up to the generation that was the newest when it was spawned, and learns its note. So
+/// its first turn is under a generation that reaches its note's.
 fn welcome<K: Naming, T: TableName, R: Wait>(
     alloc: Global,
     rt: &R,
@@ -55,6 +56,8 @@ fn welcome<K: Naming, T: TableName, R: Wait>(
     ensures all { length processes.new ≡ PROCESSES }
     // what the scheduler keeps of its processes it keeps of the newcomer too
     ensures kept { KeepsOneMore K.names shared.now.table.shared.key (view_of member.old) (view_of member.new) newcomer processes.old processes.new }
+    // no process had a turn
+    ensures came { HaveCome (view_of member.old) (view_of member.new) processes.old processes.new }
 {
     let place = newcomer.number as usize;
     let published = newcomer.published;
@@ -65,7 +68,7 @@ fn welcome<K: Naming, T: TableName, R: Wait>(
 }
 
 /// A process comes to its place. One that does not belong here is let go: none such is posted, but no type tells it.
-#[tactic(auto, using(crate::proofs::Welcomes::let_go_keeps))]
+#[tactic(auto, using(crate::proofs::Welcomes::let_go_keeps, crate::proofs::Welcomes::none_come))]
 fn take_one<K: Naming, T: TableName, R: Wait>(
     alloc: Global,
     rt: &R,
@@ -90,13 +93,15 @@ fn take_one<K: Naming, T: TableName, R: Wait>(
     ensures all { length processes.new ≡ PROCESSES }
     // what the scheduler keeps of its processes it keeps of the newcomer too
     ensures kept { KeepsOneMore K.names shared.now.table.shared.key (view_of member.old) (view_of member.new) newcomer processes.old processes.new }
+    // no process had a turn
+    ensures came { HaveCome (view_of member.old) (view_of member.new) processes.old processes.new }
 {
     if belongs(newcomer.number, number, shared.members(), processes) {
         welcome(alloc, rt, shared, member, newcomer, processes);
     }
 }
 
-/// Takes processes out of the inbox until it is empty. They take no memory: each has its place.
+/// Takes processes out of the inbox until it answers that it is empty, and hands that answer out. They take no memory: each has its place.
 pub fn take_in<K: Naming, T: TableName, I: InboxNames, R: Wait>(
     alloc: Global,
     rt: &R,
@@ -105,7 +110,7 @@ pub fn take_in<K: Naming, T: TableName, I: InboxNames, R: Wait>(
     member: &mut Member,
     taker: &mut Taker<Newcomer<T>, I>,
     processes: &mut [Option<ProcessRun>],
-)
+) -> bool
     // the inbox is one of this table's run
     requires table { T.table ≡ Some shared.now.table.shared.table_id }
     requires inbox { taker.old.number ≡ inbox.now }
@@ -121,16 +126,19 @@ pub fn take_in<K: Naming, T: TableName, I: InboxNames, R: Wait>(
     ensures between { IsBetweenTurns (view_of member.new) }
     ensures all { length processes.new ≡ PROCESSES }
     ensures inbox { taker.new.number ≡ inbox.now }
-    // what the scheduler keeps of its processes it keeps of all that it took, and it took all that it was told of
+    // what the scheduler keeps of its processes it keeps of all that it took
     ensures kept { KeepsWhatCame K.names shared.now.table.shared.key (view_of member.old) (view_of member.new) taker.old.taken taker.new.taken processes.old processes.new }
-    ensures empty { IsPrefix taker.new.told taker.new.taken }
-    // it was told of nothing meanwhile
+    // no process had a turn
+    ensures came { HaveCome (view_of member.old) (view_of member.new) processes.old processes.new }
+    // the inbox answered that it is empty: the scheduler took all that it was told of, and it was told of nothing meanwhile
+    ensures answer { result ≡ true }
+    ensures empty { result ≡ true → IsPrefix taker.new.told taker.new.taken }
     ensures told { taker.new.told ≡ taker.old.told }
 {
     let number = inbox.number();
     for _ in rt.forever() {
         let Some(newcomer) = inbox.take(rt, taker) else {
-            return;
+            return true;
         };
         take_one(alloc, rt, shared, member, number, newcomer, processes);
     }

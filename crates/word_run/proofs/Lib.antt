@@ -6,6 +6,7 @@ pub mod Making
 pub mod Noting
 pub mod Waiting
 pub mod Laps
+pub mod SliceTurns
 pub mod Slices
 pub mod Answering
 pub mod RoundSeats

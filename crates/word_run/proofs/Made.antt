@@ -40,6 +40,7 @@ begins_run table opening handed writer is script token =
     record {
       first = subst IsAtFirst (sym view) (begun_first opening handed);
       notes = ap (λ (w : WriterView). w.notes) view;
+      drops = ap (λ (w : WriterView). w.looks.dropped) view;
       of_run = (token, refl);
     }
 

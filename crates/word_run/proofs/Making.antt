@@ -14,11 +14,9 @@ use Rattle.run_log.specs.declared.logs.Who.TheVariants.{Runtime}
 use Rattle.run_log.specs.Journal.{published_count}
 use Rattle.run_law.specs.Newcomers.{SpawnedProcess}
 use Rattle.inbox.specs.Ends.{Posting}
-use Rattle.write_permit.specs.declared.answers.Pumped.{Pumped as OfAreas}
-use Rattle.write_permit.specs.declared.answers.Pumped.TheVariants as plain
 use Rattle.write_permit.specs.declared.holder.Holder.{Holder}
 use Rattle.write_permit.specs.Book.{IsPermit, shown}
-use Rattle.write_permit.specs.Permit.{PermitState, PumpStep, PermitStep, at_once_of, done_of, joined, next_of}
+use Rattle.write_permit.specs.Permit.{PermitState, PermitStep, at_once_of, done_of, joined, next_of}
 use Rattle.word_permit.specs.declared.answers.Pumped.{Pumped}
 use Rattle.word_permit.specs.declared.answers.Pumped.TheVariants as pumps
 use Rattle.word_permit.specs.declared.book.WordBook.{WordBook}
@@ -79,13 +77,12 @@ makes_grown b c ends permit grown = makes_quiet (shown b.plain) (shown c.plain) 
 
 -- ---- releases
 
-module _ (p q : PermitState) (serial : ℕ) (answer : OfAreas) (permit : IsPermit p) (ends : List (Posting SpawnedProcess)) where
+module _ (p q : PermitState) (serial : ℕ) (permit : IsPermit p) (ends : List (Posting SpawnedProcess)) where
   joined_by : (o : Option Outcome)
-      → option_map {T = PermitStep} {U = PumpStep} (λ s. record { state = s.state; answer = plain.Released serial }) (option_map (λ x. record { state = joined p Runtime (cmds.Release serial) x; answer = x.answer }) o)
-      ≡ Some (record { state = q; answer = answer }) → MakesOn p q ends ends
+      → option_map {T = PermitStep} {U = PermitState} (λ s. s.state) (option_map {U = PermitStep} (λ x. record { state = joined p Runtime (cmds.Release serial) x; answer = x.answer }) o) ≡ Some q → MakesOn p q ends ends
   joined_by None h = absurd (none-some _ h)
   joined_by (Some o) h =
-      let is : q ≡ joined p Runtime (cmds.Release serial) o = ap (λ (x : PumpStep). x.state) (sym (same_Some _ _ h)) in
+      let is : q ≡ joined p Runtime (cmds.Release serial) o = sym (same_Some _ q h) in
       let entry : Entry = record { who = Runtime; cmd = cmds.Release serial; reply = o.answer.reply; published = o.answer.published } in
       makes_quiet p q ends permit (record {
         script = ap (λ (x : PermitState). x.script) is;
@@ -96,7 +93,7 @@ module _ (p q : PermitState) (serial : ℕ) (answer : OfAreas) (permit : IsPermi
 
 module _ (b c : WordBook) (permit : IsPermit (shown b.plain)) (ends : List (Posting SpawnedProcess)) where
   released : (step : Pumped) → PumpAnswers b c step → MakesOn (shown b.plain) (shown c.plain) ends ends
-  released (pumps.Released serial) h = joined_by (shown b.plain) (shown c.plain) serial _ permit ends (apply_of b.plain.script.modules b.plain.server (cmds.Release serial)) h.step
+  released (pumps.Released serial) h = joined_by (shown b.plain) (shown c.plain) serial permit ends (apply_of b.plain.script.modules b.plain.server (cmds.Release serial)) h.step
   released (pumps.NotYet answer) h = makes_same (shown b.plain) (shown c.plain) ends permit h.0.same
   released (pumps.Named serial process turn place word) h = makes_same (shown b.plain) (shown c.plain) ends permit h.0.same
   released pumps.Nothing h = makes_same (shown b.plain) (shown c.plain) ends permit h.0.same

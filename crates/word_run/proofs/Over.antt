@@ -316,7 +316,7 @@ module _ {T I : Type 0} (names : List Mfa) (table : TableId) (opening : Opening)
           }
 
           answers : AreAnswersKept s.modules p.journal w.looks
-          answers = subst (AreAnswersKept s.modules p.journal) (sym (ap (λ (x : WriterView). x.looks) closed.same)) has.answered
+          answers = subst (AreAnswersKept s.modules p.journal) (sym (ap (λ (x : WriterView). x.looks) closed.same)) has.answered.kept
 
           -- so its log is a history
           pub is_history : RunsAreHistories → HaveWatched names s the_log w.published → IsHistory names s the_log w

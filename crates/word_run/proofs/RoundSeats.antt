@@ -9,9 +9,11 @@ use Rattle.run_log.proofs.ListPlaces.{get_within}
 use Rattle.word_run.specs.Places.{EachBecame}
 use Rattle.word_run.specs.declared.scheduler.Slice.{Slice}
 use Rattle.word_run.specs.declared.scheduler.Slice.TheVariants.{Idle}
+use Rattle.word_run.specs.declared.scheduler.TheConstants.{SLICE_LAPS}
 use Rattle.word_run.specs.declared.seat.Seat.{Seat}
 use Rattle.word_run.specs.Rounds.{AreAllIdle, AreIdle, AreKept, CanGo, HadSlice, HasTakenTold, IsIdle}
 use Rattle.word_run.specs.Schedulers.{Keeps}
+use Rattle.word_run.specs.SliceTurns.{HadItsLaps}
 
 -- ---- answers
 
@@ -33,12 +35,13 @@ all_places P xs each = λ k d below. each k (get_or xs k d) (slice_get-get_or xs
 module _ {T I : Type 0} (functions : List Mfa) (table : TableId) (opening : Opening) where
   -- a slice as its answer tells of it
   pub had_slice : (before after : Seat T I) → after.scheduler.number ≡ before.scheduler.number → after.scheduler.taker.told ≡ before.scheduler.taker.told
-      → OnOk after.answer (Keeps functions table opening after.scheduler) → OnOk after.answer (HasTakenTold after.scheduler)
+      → OnOk after.answer (Keeps functions table opening after.scheduler) → OnOk after.answer (HadItsLaps functions SLICE_LAPS before.scheduler after.scheduler) → OnOk after.answer (HasTakenTold after.scheduler)
       → IfOk after.answer (λ slice. (slice ≡ Idle) ↔ IsIdle after.scheduler) → HadSlice functions table opening before after
-  had_slice before after number told kept taken idle = record {
+  had_slice before after number told kept turns taken idle = record {
     number = number;
     told = told;
     kept = on_if (Keeps functions table opening after.scheduler) after.answer kept;
+    turns = on_if (HadItsLaps functions SLICE_LAPS before.scheduler after.scheduler) after.answer turns;
     taken = on_if (HasTakenTold after.scheduler) after.answer taken;
     idle = idle;
   }

@@ -1,5 +1,5 @@
 -- A run over a round.
-use Rattle.std.proofs.Common.{◌≡◌, ℕ, ◌<◌, All, List, get_or, length, slice_get, Option, Some, IsOk, sym, subst, ◌∙◌, arith}
+use Rattle.std.proofs.Common.{◌≡◌, ℕ, ◌<◌, All, Bool, List, get_or, length, slice_get, Option, Some, IsOk, sym, subst, ◌∙◌, arith}
 use Rattle.std.proofs.lemmas.Option.{same_Some, slice_get-get_or, slice_get_within}
 use Rattle.atomic_table.specs.Seated.{TableId}
 use Rattle.term_core.specs.declared.atom.Mfa.{Mfa}
@@ -8,6 +8,7 @@ use Rattle.script_core.specs.declared.script.Script.{Script}
 use Rattle.word_run.specs.declared.seat.Seat.{Seat}
 use Rattle.word_run.specs.declared.sight.Sight.{Sight}
 use Rattle.word_run.specs.Desks.{AddsInSlices, DeskState, HasHomes, IsSliceOf}
+use Rattle.word_run.specs.Loaders.{AreAnswers, IsUnderLock}
 use Rattle.word_run.specs.Places.{EachBecame}
 use Rattle.word_run.specs.Rounds.{AreAllIdle, AreIdle, CanGo, HadSlice, IsRun}
 use Rattle.word_run.proofs.RoundSeats.{idle_sliced, kept_go, kept_sliced}
@@ -16,8 +17,8 @@ use Rattle.word_run.proofs.Slices.{slices_none}
 -- ---- a round
 
 -- nothing was made yet
-pub named_begins : (began : Option DeskState) (d : DeskState) → began ≡ Some d → IsSliceOf began d
-named_begins began d is = subst (λ (o : Option DeskState). IsSliceOf o d) (sym is) (slices_none d)
+pub named_begins : (began : Option DeskState) (answered : ℕ → Bool → Type 0) (d : DeskState) → began ≡ Some d → AreAnswers began answered → IsUnderLock began answered d
+named_begins began answered d is answers = record { since = subst (λ (o : Option DeskState). IsSliceOf o d) (sym is) (slices_none d); answers = answers }
 
 pub named_homes : (began : Option DeskState) (d : DeskState) (count : ℕ) → began ≡ Some d → count ≡ length d.posted → HasHomes began count
 named_homes began d count is homes = subst (λ (o : Option DeskState). HasHomes o count) (sym is) (sym homes)

@@ -8,6 +8,7 @@ use Rattle.inbox.specs.Ends.{Posting}
 use Rattle.write_permit.specs.Book.{shown}
 use Rattle.word_run.specs.declared.scheduler.Scheduler.{Scheduler}
 use Rattle.word_run.specs.Desks.{AddsInSlices, DeskState, HasHomes, IsSliceOf, MakesOn}
+use Rattle.word_run.specs.Loaders.{IsUnderLock}
 use Rattle.word_run.specs.Schedulers.{Keeps}
 use Rattle.word_run.proofs.Going.{goes_same, goes_through}
 
@@ -29,10 +30,13 @@ pub makes_lent : (d e : DeskState) (lent after : List (Posting SpawnedProcess)) 
 makes_lent d e lent after lent_is after_is h =
     subst (λ (xs : List (Posting SpawnedProcess)). MakesOn (shown d.book.plain) (shown e.book.plain) d.posted xs) (sym after_is) (subst (λ (xs : List (Posting SpawnedProcess)). MakesOn (shown d.book.plain) (shown e.book.plain) xs after) lent_is h)
 
--- since the round began it is so still
-pub slice_on : (began : Option DeskState) (d e : DeskState) → IsSliceOf began d → AddsInSlices d e → IsSliceOf began e
-slice_on None d e h more = absurd h
-slice_on (Some b) d e h more = slices_both b d e h more
+since_on : (began : Option DeskState) (d e : DeskState) → IsSliceOf began d → AddsInSlices d e → IsSliceOf began e
+since_on None d e h more = absurd h
+since_on (Some b) d e h more = slices_both b d e h more
+
+-- what lies under the lock does so still
+pub slice_on : (began : Option DeskState) (answered : ℕ → Bool → Type 0) (d e : DeskState) → IsUnderLock began answered d → AddsInSlices d e → IsUnderLock began answered e
+slice_on began answered d e h more = record { since = since_on began d e h.since more; answers = h.answers }
 
 -- there are as many homes as when it began
 pub slice_homes : (began : Option DeskState) (d : DeskState) (count : ℕ) → IsSliceOf began d → HasHomes began count → count ≡ length d.posted

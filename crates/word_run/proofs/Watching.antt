@@ -51,6 +51,7 @@ module _ (names functions : List Mfa) (table : TableId) where
   -- a look as its answer tells of it
   pub had_look : (before after : Onlooker) → OnOk after.answer (Observes names functions table after.observer) → OnOk after.answer (HasLooked names before.observer after.observer) → HadLook names functions table before after
   had_look before after observes looked = record {
+    looked = on_if (HasLooked names before.observer after.observer) after.answer looked;
     observes = on_if (Observes names functions table after.observer) after.answer observes;
     counted = on_if (taken_in_all after.observer ≡ taken_in_all before.observer) after.answer (on_ok_weaker after.answer (taken_counted names before.observer after.observer) looked);
   }

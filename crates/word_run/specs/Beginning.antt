@@ -24,6 +24,7 @@ exports_after names (to ∷ more) = exports_after (exports_with names to) more
 pub record BeginsRun (writer : writers.Writer) (script : Script) (run : Option Run) : Type 0 where
   pub first : IsAtFirst (written_by writer)
   pub notes : (written_by writer).notes ≡ []
+  pub drops : (written_by writer).looks.dropped ≡ []
   pub of_run : IsSomeAnd run (λ r. IsWriterOf r.table r.opening writer × (r.script ≡ script))
 
 -- nothing was posted to a home

@@ -2,6 +2,7 @@ pub mod Names
 pub mod Desks
 pub mod Loaders
 pub mod Schedulers
+pub mod SliceTurns
 pub mod Rounds
 pub mod Told
 pub mod Beginning

@@ -28,27 +28,41 @@ IsStepFor next Over = next ≡ None
 IsStepFor next AtOnce = IsSomeAnd next (λ command. needs_permission command ≡ false)
 IsStepFor next Operates = IsSomeAnd next (λ command. needs_permission command ≡ true)
 
--- a loader was asked in a slice: on the desk as it lay then, this is whether it had no next command
+-- on this desk, this is whether a loader has no next command
+abbrev pub TellsOn : DeskState → ℕ → Bool → Type 0
+TellsOn desk who over = (over ≡ true) ↔ (next_of (shown desk.book.plain) who ≡ None)
+
+-- on some desk since the round began, this was whether a loader had no next command
 pub record TellsOfLoader (began : Option DeskState) (who : ℕ) (over : Bool) : Type 0 where
   pub desk : DeskState
   pub since : IsSliceOf began desk
-  pub tells : (over ≡ true) ↔ (next_of (shown desk.book.plain) who ≡ None)
+  pub tells : TellsOn desk who over
+
+-- what a desk since the round began tells of a loader is an answer of the round. What these answers are a slice does not know: it has one only from what lies
+-- under the lock
+abbrev pub AreAnswers : Option DeskState → (ℕ → Bool → Type 0) → Type 0
+AreAnswers began answered = (desk : DeskState) (who : ℕ) (over : Bool) → IsSliceOf began desk → TellsOn desk who over → answered who over
+
+-- what lies under the lock is a desk since the round began, and what it tells are answers of the round
+pub record IsUnderLock (began : Option DeskState) (answered : ℕ → Bool → Type 0) (desk : DeskState) : Type 0 where
+  pub since : IsSliceOf began desk
+  pub answers : AreAnswers began answered
 
 -- a loader is one of the script's, and of the scheduler of this number among so many
 pub record IsLoaderOf (number count loaders who : ℕ) : Type 0 where
   pub below : who < loaders
   pub own : who % count ≡ number
 
--- a loader of this scheduler had a next command
-pub record HasCommands (began : Option DeskState) (number count loaders : ℕ) : Type 0 where
+-- a loader of this scheduler answered that it had a next command
+pub record HasCommands (answered : ℕ → Bool → Type 0) (number count loaders : ℕ) : Type 0 where
   pub who : ℕ
   pub own : IsLoaderOf number count loaders who
-  pub answers : TellsOfLoader began who false
+  pub answers : answered who false
 
--- the loaders of this scheduler were asked, and this is whether none of them had a next command
-pub record TellsOfLoaders (began : Option DeskState) (number count loaders : ℕ) (over : Bool) : Type 0 where
-  pub none : over ≡ true → (who : ℕ) → IsLoaderOf number count loaders who → TellsOfLoader began who true
-  pub some : over ≡ false → HasCommands began number count loaders
+-- the loaders of this scheduler were asked, and this is whether none of them answered that it had a next command
+pub record TellsOfLoaders (answered : ℕ → Bool → Type 0) (number count loaders : ℕ) (over : Bool) : Type 0 where
+  pub none : over ≡ true → (who : ℕ) → IsLoaderOf number count loaders who → answered who true
+  pub some : over ≡ false → HasCommands answered number count loaders
 
 -- the process is posted to the home of its number, and nothing else is
 abbrev pub posted_home : List (Posting SpawnedProcess) → SpawnedProcess → List (Posting SpawnedProcess)

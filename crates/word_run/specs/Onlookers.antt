@@ -9,7 +9,7 @@ use Rattle.progress_words.specs.Tokens.{IsWatcherOf, watched_by}
 use Rattle.run_log.specs.declared.logs.Snapshot.{Snapshot}
 use Rattle.run_law.specs.Observing.{HaveSeen}
 use Rattle.observers.specs.declared.observer.Observer.{Observer}
-use Rattle.observers.specs.Observing.{Observes}
+use Rattle.observers.specs.Observing.{HasLooked, Observes}
 use Rattle.word_run.specs.declared.onlooker.Onlooker.{Onlooker}
 
 -- how many snapshots an observer takes in all: those that it has, and those that it lacks
@@ -30,8 +30,9 @@ pub record AreOnlookers (names functions : List Mfa) (table : TableId) (counts :
 
 -- ---- over a round
 
--- an observer had its look: unless it met want of memory it observes as before, and takes as many snapshots in all
+-- an observer had its look: unless it met want of memory it observes as before, took one snapshot if it lacked one, and none else, and so takes as many in all
 pub record HadLook (names functions : List Mfa) (table : TableId) (before after : Onlooker) : Type 0 where
+  pub looked : IfOk after.answer (λ _. HasLooked names before.observer after.observer)
   pub observes : IfOk after.answer (λ _. Observes names functions table after.observer)
   pub counted : IfOk after.answer (λ _. taken_in_all after.observer ≡ taken_in_all before.observer)
 

@@ -1,6 +1,6 @@
 -- What a run has between two of its rounds.
 -- Source: this project's profile.
-use Rattle.std.specs.Prelude.{◌≡◌, ◌↔◌, ℕ, ◌<◌, true, List, [], length, slice_get, Option, Some, None, Ok, IfOk}
+use Rattle.std.specs.Prelude.{◌≡◌, ◌↔◌, ℕ, ◌<◌, Bool, true, List, [], length, slice_get, Option, Some, None, Ok, IfOk}
 use mathlib.Core.List.{IsPrefix}
 use Rattle.atomic_table.specs.Seated.{TableId}
 use Rattle.term_core.specs.declared.atom.Mfa.{Mfa}
@@ -11,11 +11,13 @@ use Rattle.write_permit.specs.Book.{shown}
 use Rattle.word_lap.specs.declared.process_run.ProcessRun.{ProcessRun}
 use Rattle.word_run.specs.declared.scheduler.Scheduler.{Scheduler}
 use Rattle.word_run.specs.declared.scheduler.Slice.TheVariants.{Idle}
+use Rattle.word_run.specs.declared.scheduler.TheConstants.{SLICE_LAPS}
 use Rattle.word_run.specs.declared.seat.Seat.{Seat}
 use Rattle.word_run.specs.declared.sight.Sight.{Sight}
 use Rattle.word_run.specs.Desks.{DeskState}
 use Rattle.word_run.specs.Loaders.{AreInboxes, TellsOfLoaders}
 use Rattle.word_run.specs.Schedulers.{Keeps}
+use Rattle.word_run.specs.SliceTurns.{HadItsLaps}
 
 -- a place without a process that goes on
 abbrev pub RestsAt : Option ProcessRun → Type 0
@@ -36,12 +38,12 @@ module _ {T : Type 0} {I : Type 0} where
   abbrev pub HasTakenTold : Scheduler T I → Type 0
   HasTakenTold s = IsPrefix s.taker.told s.taker.taken
 
-  -- a scheduler keeps what it was answered in its last lap: of its loaders, and of its inbox, which answered that it is empty, so that all that the
-  -- scheduler was told of is taken
-  pub record HasAnswers (began : Option DeskState) (count loaders : ℕ) (s : Scheduler T I) : Type 0 where
-    pub over : TellsOfLoaders began s.number count loaders s.over
+  -- a scheduler keeps what it was answered in its last lap: by the desk, of each of its loaders; and by its inbox, which answered that it is empty, and by
+  -- that answer all that the scheduler was told of is taken
+  pub record HasAnswers (answered : ℕ → Bool → Type 0) (count loaders : ℕ) (s : Scheduler T I) : Type 0 where
+    pub over : TellsOfLoaders answered s.number count loaders s.over
     pub emptied : s.emptied ≡ true
-    pub taken : HasTakenTold s
+    pub taken : s.emptied ≡ true → HasTakenTold s
 
   -- a call leaves these answers, and the inbox
   pub record StaysAnswered (old new : Scheduler T I) : Type 0 where
@@ -61,12 +63,13 @@ module _ {T : Type 0} {I : Type 0} where
     pub below : seat.scheduler.number < count
     pub kept : Keeps functions table opening seat.scheduler
 
-  -- a scheduler had a slice: it was told of nothing meanwhile, it keeps what it knows of its processes, it has taken all that it was told of before, and the
-  -- answer tells whether it is idle
+  -- a scheduler had a slice: it was told of nothing meanwhile, it keeps what it knows of its processes, each of them had its turns, it has taken all that it was
+  -- told of before, and the answer tells whether it is idle
   pub record HadSlice (functions : List Mfa) (table : TableId) (opening : Opening) (before after : Seat T I) : Type 0 where
     pub number : after.scheduler.number ≡ before.scheduler.number
     pub told : after.scheduler.taker.told ≡ before.scheduler.taker.told
     pub kept : IfOk after.answer (λ _. Keeps functions table opening after.scheduler)
+    pub turns : IfOk after.answer (λ _. HadItsLaps functions SLICE_LAPS before.scheduler after.scheduler)
     pub taken : IfOk after.answer (λ _. HasTakenTold after.scheduler)
     pub idle : IfOk after.answer (λ slice. (slice ≡ Idle) ↔ IsIdle after.scheduler)
 

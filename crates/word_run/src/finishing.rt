@@ -11,7 +11,7 @@ ghost use Rattle.word_permit.specs.Books.{KeepsRun};
 ghost use Rattle.word_permit.specs.Runs.{IsOverWords};
 ghost use Rattle.word_run.specs.declared.onlooker.Onlooker.{Onlooker};
 ghost use Rattle.word_run.specs.Desks.{IsDesk};
-ghost use Rattle.word_run.specs.Finished.{AddsParts, AreLogged, AreParted, AreSettled, HasGathered};
+ghost use Rattle.word_run.specs.Finished.{AreLogged, AreSettled, HasGathered};
 ghost use Rattle.word_run.specs.Loaders.{AreEnds, AreInboxes, AreTakers};
 ghost use Rattle.word_run.specs.Names.{HasTable};
 ghost use Rattle.word_run.specs.Onlookers.{AreOnlookers, HaveLeft};
@@ -19,10 +19,10 @@ ghost use Rattle.word_run.specs.Rounds.{AreAllIdle, HaveTakers, IsDone, IsRun};
 
 use crate::desk::Desk;
 use crate::looking::{Watched, take_rest};
+use crate::parted::{Parted, take_apart};
 use crate::process_logs::process_logs;
 use crate::ran::Ran;
 use crate::run::Run;
-use crate::scheduler::Scheduler;
 use crate::seat::Seat;
 use code_law::{CodeLaw, Naming};
 use inbox::{Inbox, InboxNames, Poster, Taker};
@@ -36,14 +36,6 @@ use std::sync::Wait;
 use term_core::NoMemory;
 use word_lap::{Newcomer, ProcessRun, TableName, kept_processes_have_run};
 use word_permit::{Finished, RunName};
-
-/// What the schedulers of a run give back, each by number.
-#[derive(Drop)]
-pub struct Parted<T: TableName, I: InboxNames> {
-    pub members: Vec<Member>,
-    pub takers: Vec<Taker<Newcomer<T>, I>>,
-    pub processes: Vec<Vec<Option<ProcessRun>>>,
-}
 
 /// What is left of a desk.
 #[derive(Drop)]
@@ -87,6 +79,7 @@ pub fn finish<K: Naming, N: RunName, T: TableName, I: InboxNames, R: Wait>(
     requires onlookers { AreOnlookers K.names functions.now run.shared.table.shared.table_id script.now.observers run.onlookers.items }
     ensures history { IfOk result (λ ran. IsHistory K.names script.now ran.log (writer_of ran.closed.writer.seat.me.0)) }
     ensures table { IfOk result (λ ran. ran.closed.writer.seat.table_id ≡ run.shared.table.shared.table_id) }
+    ensures members { IfOk result (λ ran. length (writer_of ran.closed.writer.seat.me.0).members ≡ run.shared.table.shared.key.members) }
 {
     journals_are_sound();
     closed_tables_tell();
@@ -231,47 +224,6 @@ fn token_of(tables: Tables) -> Writer
     ensures { result ≡ tables.writer }
 {
     tables.writer
-}
-
-/// The schedulers taken apart.
-fn take_apart<T: TableName, I: InboxNames>(
-    alloc: Global,
-    seats: Vec<Seat<T, I>>,
-) -> Result<Parted<T, I>, NoMemory>
-    ensures { IfOk result (λ parted. AreParted seats.items parted.members.items parted.takers.items parted.processes.items) }
-{
-    let mut parted = Parted {
-        members: Vec::new(alloc),
-        takers: Vec::new(alloc),
-        processes: Vec::new(alloc),
-    };
-    for seat in seats {
-        part(seat, &mut parted)?;
-    }
-    Ok(parted)
-}
-
-/// A scheduler taken apart.
-fn part<T: TableName, I: InboxNames>(
-    seat: Seat<T, I>,
-    parted: &mut Parted<T, I>,
-) -> Result<(), NoMemory>
-    ensures { OnOk result (AddsParts seat parted.old.members.items parted.new.members.items parted.old.takers.items parted.new.takers.items parted.old.processes.items parted.new.processes.items) }
-{
-    let Seat { scheduler, .. } = seat;
-    let Scheduler {
-        member,
-        taker,
-        processes,
-        ..
-    } = scheduler;
-    let Some(member) = member else {
-        return Err(NoMemory);
-    };
-    parted.members.push(member)?;
-    parted.takers.push(taker)?;
-    parted.processes.push(processes)?;
-    Ok(())
 }
 
 /// The ends of all inboxes come together. Nothing is left in one: a slice takes its inbox until that is empty. No clause of a lock tells that nothing was

@@ -7,6 +7,7 @@ ghost use Rattle.word_run.specs.Loaders.{AreInboxes};
 ghost use Rattle.word_run.specs.Names.{HasTable};
 ghost use Rattle.word_run.specs.Rounds.{HasAnswers, HasTakenTold, StaysAnswered};
 ghost use Rattle.word_run.specs.Schedulers.{Keeps};
+ghost use Rattle.word_run.specs.SliceTurns.{HadOneTurn, HadItsLaps, HasArrived};
 
 use crate::loaders::step_loaders;
 use crate::releasing::pump;
@@ -47,7 +48,9 @@ impl<T: TableName, I: InboxNames> Scheduler<T, I> {
         ensures number { self.new.number ≡ self.old.number }
         ensures kept { OnOk result (Keeps K.names shared.now.table.shared.table_id shared.now.table.shared.key self.new) }
         ensures told { self.new.taker.told ≡ self.old.taker.told }
-        ensures answers { OnOk result (HasAnswers E.began (length inboxes.now) sight.now.loaders self.new) }
+        // Each process that it had, and each that came, had one turn, where it went on.
+        ensures turns { OnOk result (HadItsLaps K.names 1 self.old self.new) }
+        ensures answers { OnOk result (HasAnswers E.answered (length inboxes.now) sight.now.loaders self.new) }
         ensures awake { OnOk result (self.new.waits ≡ false) }
     {
         self.arrive(rt, shared, inboxes);
@@ -82,9 +85,11 @@ impl<T: TableName, I: InboxNames> Scheduler<T, I> {
         ensures number { self.new.number ≡ self.old.number }
         ensures kept { Keeps K.names shared.now.table.shared.table_id shared.now.table.shared.key self.new }
         ensures awake { self.new.waits ≡ false }
-        // The inbox answered that it is empty: all that the scheduler was told of is taken, and it was told of nothing meanwhile.
+        // Processes came, and none had a turn.
+        ensures arrived { HasArrived K.names self.old self.new }
+        // The inbox answered that it is empty: by that all that the scheduler was told of is taken, and it was told of nothing meanwhile.
         ensures emptied { self.new.emptied ≡ true }
-        ensures taken { HasTakenTold self.new }
+        ensures taken { self.new.emptied ≡ true → HasTakenTold self.new }
         ensures told { self.new.taker.told ≡ self.old.taker.told }
     {
         let Some(mut member) = self.member.take() else {
@@ -92,7 +97,7 @@ impl<T: TableName, I: InboxNames> Scheduler<T, I> {
         };
         other_calls_keep_processes();
         let inbox = &inboxes[self.number as usize];
-        take_in(
+        self.emptied = take_in(
             self.alloc,
             rt,
             shared,
@@ -101,7 +106,6 @@ impl<T: TableName, I: InboxNames> Scheduler<T, I> {
             &mut self.taker,
             self.processes.as_mut_slice(),
         );
-        self.emptied = true;
         self.generation = catch_up(rt, shared, &mut member, self.generation);
         self.member = Some(member);
     }
@@ -118,6 +122,8 @@ impl<T: TableName, I: InboxNames> Scheduler<T, I> {
         requires awake { self.old.waits ≡ false }
         ensures number { self.new.number ≡ self.old.number }
         ensures told { self.new.taker.told ≡ self.old.taker.told }
+        // Each process that goes on had one turn.
+        ensures turns { OnOk result (HadOneTurn K.names self.old self.new) }
         ensures answers { OnOk result (StaysAnswered self.old self.new) }
         ensures kept { OnOk result (Keeps K.names shared.now.table.shared.table_id shared.now.table.shared.key self.new) }
         ensures awake { OnOk result (self.new.waits ≡ false) }

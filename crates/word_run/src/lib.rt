@@ -9,6 +9,7 @@ mod loaders;
 mod loading;
 mod looking;
 mod onlooker;
+mod parted;
 mod posting;
 mod process_logs;
 mod ran;

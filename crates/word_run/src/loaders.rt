@@ -3,7 +3,7 @@
 ghost use Rattle.std.specs.Prelude.{◌≡◌, ◌<◌, ◌%◌, true, length, IfOk};
 ghost use Rattle.word_permit.specs.Runs.{IsOverWords};
 ghost use Rattle.word_run.specs.Desks.{HasHomes};
-ghost use Rattle.word_run.specs.Loaders.{AreInboxes, TellsOfLoader, TellsOfLoaders};
+ghost use Rattle.word_run.specs.Loaders.{AreInboxes, TellsOfLoaders};
 ghost use Rattle.word_run.specs.Names.{HasTable};
 
 use crate::slicing::{RoundName, Slicing};
@@ -31,7 +31,7 @@ fn step_loader<K: Naming, N: RunName, T: TableName, I: InboxNames, E: RoundName,
     requires table { HasTable N.run T.table }
     requires homes { HasHomes E.began (length inboxes.now) }
     requires inboxes { AreInboxes inboxes.now }
-    ensures { IfOk result (λ over. TellsOfLoader E.began who over) }
+    ensures { IfOk result (λ over. E.answered who over) }
 {
     let mut desk = desk.lock(rt);
     desk.stands();
@@ -54,7 +54,7 @@ fn step_own<K: Naming, N: RunName, T: TableName, I: InboxNames, E: RoundName, R:
     requires homes { HasHomes E.began (length inboxes.now) }
     requires inboxes { AreInboxes inboxes.now }
     requires some { 0 < length inboxes.now }
-    ensures own { who % length inboxes.now ≡ number → IfOk result (λ over. TellsOfLoader E.began who over) }
+    ensures own { who % length inboxes.now ≡ number → IfOk result (λ over. E.answered who over) }
     ensures other { (who % length inboxes.now ≡ number → ⊥) → IfOk result (λ over. over ≡ true) }
 {
     if who as usize % inboxes.len() != number as usize {
@@ -88,7 +88,7 @@ pub fn step_loaders<
     requires homes { HasHomes E.began (length inboxes.now) }
     requires inboxes { AreInboxes inboxes.now }
     requires some { 0 < length inboxes.now }
-    ensures { IfOk result (λ over. TellsOfLoaders E.began number (length inboxes.now) loaders over) }
+    ensures { IfOk result (λ over. TellsOfLoaders E.answered number (length inboxes.now) loaders over) }
 {
     let mut over = true;
     for who in 0..loaders {

@@ -5,7 +5,7 @@ ghost use Rattle.observers.specs.Observing.{Observes};
 ghost use Rattle.word_permit.specs.Runs.{IsOverWords};
 ghost use Rattle.word_run.specs.declared.seat.Seat.{Seat};
 ghost use Rattle.word_run.specs.Desks.{AddsInSlices, HasHomes, IsSliceOf};
-ghost use Rattle.word_run.specs.Loaders.{AreInboxes};
+ghost use Rattle.word_run.specs.Loaders.{AreAnswers, AreInboxes, IsUnderLock};
 ghost use Rattle.word_run.specs.Names.{HasTable};
 ghost use Rattle.word_run.specs.Onlookers.{AreOnlookers, HadLook};
 ghost use Rattle.word_run.specs.Places.{EachBecame};
@@ -103,6 +103,7 @@ where
     R: Threads + Wait + Sync,
     G: Gate,
     requires began { E.began ≡ Some desk }
+    requires answers { AreAnswers E.began E.answered }
     requires homes { length inboxes.now ≡ length desk.posted }
     requires words { IsOverWords shared.now.table.shared.table_id shared.now.table.shared.key N.run }
     requires table { HasTable N.run T.table }
@@ -125,7 +126,7 @@ where
 impl<K: Naming, N: RunName, T: TableName, I: InboxNames, E: RoundName> Slicing<K, N, T, I, E> {
     /// What lies under the lock as a round begins.
     fn of_round(desk: Desk<K, N, T, I>) -> Slicing<K, N, T, I, E>
-        requires { IsSliceOf E.began desk }
+        requires { IsUnderLock E.began E.answered desk }
         ensures { result ≡ desk }
     {
         Slicing {

@@ -1,6 +1,6 @@
 //! The rounds of a run.
 
-ghost use Rattle.std.specs.Prelude.{◌≡◌, ℕ, true, slice_get, IfOk, IsOk, OnOk, Some};
+ghost use Rattle.std.specs.Prelude.{◌≡◌, ℕ, true, length, slice_get, IfOk, IsOk, OnOk, Some};
 ghost use Rattle.run_law.specs.Ends.{IsHistory};
 ghost use Rattle.run_log.specs.ExportedFunctions.{AreExportedFunctions};
 ghost use Rattle.shared_words.specs.Seats.{writer_of};
@@ -55,6 +55,7 @@ where
     requires onlookers { AreOnlookers K.names functions.now run.shared.table.shared.table_id script.now.observers run.onlookers.items }
     ensures history { IfOk result (λ ran. IsHistory K.names script.now ran.log (writer_of ran.closed.writer.seat.me.0)) }
     ensures table { IfOk result (λ ran. ran.closed.writer.seat.table_id ≡ run.shared.table.shared.table_id) }
+    ensures members { IfOk result (λ ran. length (writer_of ran.closed.writer.seat.me.0).members ≡ run.shared.table.shared.key.members) }
 {
     let mut run = run;
     for _ in rt.forever() {

@@ -66,6 +66,8 @@ pub fn run_script<R: Threads + Wait + Sync, G: Gate>(
     ensures formed { IfOk result (λ ran. IsWellFormed script.now.names ran.log) }
     // The words have published the generations of the journal, and have a mark for each turn.
     ensures closes { IfOk result (λ ran. (names : List Mfa) × Closes names script.now ran.log (writer_of ran.closed.writer.seat.me.0)) }
+    // They have as many members as schedulers were asked for.
+    ensures members { IfOk result (λ ran. length (writer_of ran.closed.writer.seat.me.0).members ≡ schedulers) }
 {
     let functions = exported_functions(alloc, script)?;
     run_over::<Brand, R, G>(rt, alloc, script, &functions, schedulers, gate)
@@ -89,6 +91,7 @@ fn run_over<K: Naming + Send + Sync, R: Threads + Wait + Sync, G: Gate>(
     ensures whole { IfOk result (λ ran. All (λ process. AreWhole process.spans) ran.log.processes) }
     ensures formed { IfOk result (λ ran. IsWellFormed script.now.names ran.log) }
     ensures closes { IfOk result (λ ran. Closes K.names script.now ran.log (writer_of ran.closed.writer.seat.me.0)) }
+    ensures members { IfOk result (λ ran. length (writer_of ran.closed.writer.seat.me.0).members ≡ schedulers) }
 {
     let observers = script.observers.len() as u32;
     let (shared, parts) = Shared::<CodeLaw<K>>::new(alloc, schedulers, observers)?;
@@ -124,8 +127,9 @@ pub fn run_on<K: Naming + Send + Sync, R: Threads + Wait + Sync, G: Gate>(
     ensures formed { IfOk result (λ ran. IsWellFormed script.now.names ran.log) }
     // The words have published the generations of the journal, and have a mark for each turn.
     ensures closes { IfOk result (λ ran. Closes K.names script.now ran.log (writer_of ran.closed.writer.seat.me.0)) }
-    // They are the words that were given.
+    // They are the words that were given, and each of their members is in them.
     ensures table { IfOk result (λ ran. ran.closed.writer.seat.table_id ≡ shared.table.shared.table_id) }
+    ensures members { IfOk result (λ ran. length (writer_of ran.closed.writer.seat.me.0).members ≡ shared.table.shared.key.members) }
 {
     observers_begin();
     let functions = exported_functions(alloc, script)?;
@@ -175,6 +179,7 @@ where
     requires some { 0 < shared.table.shared.key.members }
     ensures history { IfOk result (λ ran. IsHistory K.names script.now ran.log (writer_of ran.closed.writer.seat.me.0)) }
     ensures table { IfOk result (λ ran. ran.closed.writer.seat.table_id ≡ shared.table.shared.table_id) }
+    ensures members { IfOk result (λ ran. length (writer_of ran.closed.writer.seat.me.0).members ≡ shared.table.shared.key.members) }
 {
     let openings = open_inboxes::<T>(alloc, shared.members())?;
     run_posted::<K, N, T, Brand, R, G>(
@@ -217,6 +222,7 @@ where
     requires queues { (k : ℕ) (id : QueueId) → slice_get openings.items k ≡ Some id → I.queue k ≡ Some id }
     ensures history { IfOk result (λ ran. IsHistory K.names script.now ran.log (writer_of ran.closed.writer.seat.me.0)) }
     ensures table { IfOk result (λ ran. ran.closed.writer.seat.table_id ≡ shared.table.shared.table_id) }
+    ensures members { IfOk result (λ ran. length (writer_of ran.closed.writer.seat.me.0).members ≡ shared.table.shared.key.members) }
 {
     let run = begin_run::<K, N, T, I>(
         alloc, script, functions, shared, writer, members, exports, openings, onlookers,

@@ -7,6 +7,8 @@ ghost use Rattle.word_run.specs.Loaders.{AreInboxes};
 ghost use Rattle.word_run.specs.Names.{HasTable};
 ghost use Rattle.word_run.specs.Rounds.{HasAnswers, IsIdle, NoneGoOn, RestsAt, StaysAnswered};
 ghost use Rattle.word_run.specs.Schedulers.{Keeps};
+ghost use Rattle.word_run.specs.SliceTurns.{HadItsLaps};
+ghost use Rattle.word_run.specs.declared.scheduler.TheConstants.{SLICE_LAPS};
 
 use crate::sight::Sight;
 use crate::slicing::{RoundName, Slicing};
@@ -47,7 +49,7 @@ pub struct Scheduler<T: TableName, I: InboxNames> {
     pub(crate) taker: Taker<Newcomer<T>, I>,
     /// Whether in its last lap none of its loaders had a next command.
     pub(crate) over: bool,
-    /// Whether in its last lap its inbox answered that it is empty. Each lap takes up to that answer.
+    /// Whether its inbox answered, when it was asked last, that it is empty. Each lap takes up to that answer.
     pub(crate) emptied: bool,
     /// The processes, each at the place of its number.
     pub(crate) processes: Vec<Option<ProcessRun>>,
@@ -107,8 +109,8 @@ impl<T: TableName, I: InboxNames> Scheduler<T, I> {
     }
 
     /// Runs its loaders and processes for 16 laps over the shared words. In a lap it takes its inbox and learns the notes of what came, reports, makes one
-    /// step of each of its loaders' commands, releases an area that nobody has any more, gives each process a turn under the generation that it holds then, and
-    /// tries to lead.
+    /// step of each of its loaders' commands, releases an area that nobody has any more, gives each process that goes on a turn under the generation that it
+    /// holds then, and tries to lead.
     ///
     /// It takes memory and the lock; after `NoMemory` the run ends. No lock is taken in a turn.
     pub fn slice<K: Naming, N: RunName, E: RoundName, R: Wait, G: Gate>(
@@ -132,8 +134,10 @@ impl<T: TableName, I: InboxNames> Scheduler<T, I> {
         ensures kept { OnOk result (Keeps K.names shared.now.table.shared.table_id shared.now.table.shared.key self.new) }
         // It was told of nothing meanwhile.
         ensures told { self.new.taker.told ≡ self.old.taker.told }
+        // Each process that it had at its beginning had 16 turns, or fewer where it has ended; each that came meanwhile had at least one.
+        ensures turns { OnOk result (HadItsLaps K.names SLICE_LAPS self.old self.new) }
         // What it was answered in its last lap, and that it is idle exactly where all three answers say so.
-        ensures answers { OnOk result (HasAnswers E.began (length inboxes.now) sight.now.loaders self.new) }
+        ensures answers { OnOk result (HasAnswers E.answered (length inboxes.now) sight.now.loaders self.new) }
         ensures idle { IfOk result (λ slice. (slice ≡ Slice.Idle) ↔ IsIdle self.new) }
     {
         self.laps(rt, shared, desk, sight, inboxes, gate)?;
@@ -173,7 +177,8 @@ impl<T: TableName, I: InboxNames> Scheduler<T, I> {
         ensures number { self.new.number ≡ self.old.number }
         ensures told { self.new.taker.told ≡ self.old.taker.told }
         ensures kept { OnOk result (Keeps K.names shared.now.table.shared.table_id shared.now.table.shared.key self.new) }
-        ensures answers { OnOk result (HasAnswers E.began (length inboxes.now) sight.now.loaders self.new) }
+        ensures turns { OnOk result (HadItsLaps K.names SLICE_LAPS self.old self.new) }
+        ensures answers { OnOk result (HasAnswers E.answered (length inboxes.now) sight.now.loaders self.new) }
         ensures awake { OnOk result (self.new.waits ≡ false) }
     {
         self.wake_up(shared);
@@ -189,6 +194,8 @@ impl<T: TableName, I: InboxNames> Scheduler<T, I> {
         ensures number { self.new.number ≡ self.old.number }
         ensures told { self.new.taker.told ≡ self.old.taker.told }
         ensures kept { Keeps K.names shared.now.table.shared.table_id shared.now.table.shared.key self.new }
+        // No process had a turn.
+        ensures turns { HadItsLaps K.names 0 self.old self.new }
         ensures awake { self.new.waits ≡ false }
     {
         if self.waits {
@@ -208,6 +215,8 @@ impl<T: TableName, I: InboxNames> Scheduler<T, I> {
         requires awake { self.old.waits ≡ false }
         ensures number { self.new.number ≡ self.old.number }
         ensures kept { Keeps K.names shared.now.table.shared.table_id shared.now.table.shared.key self.new }
+        // No process had a turn.
+        ensures turns { HadItsLaps K.names 0 self.old self.new }
         ensures answers { StaysAnswered self.old self.new }
     {
         let Some(mut member) = self.member.take() else {

@@ -7,18 +7,23 @@ use std::marker::{Brand, Model, PhantomData};
 use word_lap::TableName;
 use word_permit::RunName;
 
-/// What lay on the desk when a round began. Who begins the round picks it: a lock tells nothing of what lay under it before.
+/// What lay on the desk when a round began, and what its loaders answer in the round. Who begins the round picks both: a lock tells nothing of what lay under it
+/// before, and a slice, which does not know what the answers are, has one of a loader only from a desk that lay there.
 pub trait RoundName {
-    ghost use Rattle.std.specs.Prelude.{Option};
+    ghost use Rattle.std.specs.Prelude.{ℕ, Bool, Option};
     ghost use Rattle.word_run.specs.Desks.{DeskState};
 
     ghost began: { Option DeskState };
+
+    ghost answered: { ℕ → Bool → Type 0 };
 }
 
 impl RoundName for Brand {
     ghost use Rattle.std.specs.Prelude.{None};
 
     ghost began = { None };
+
+    ghost answered = { λ who over. ⊥ };
 }
 
 /// The desk of a run in a round: since the round began entries may have joined, and its homes are as many as then.
@@ -34,7 +39,8 @@ impl<K: Naming, N: RunName, T: TableName, I: InboxNames, E: RoundName> Model
     ghost use Rattle.term_core.specs.contracts.atom.Mfa as mfa_contracts;
     ghost use Rattle.term_core.specs.contracts.term.TermList as args_contracts;
     ghost use Rattle.word_permit.specs.contracts.book.WordBook as book_contracts;
-    ghost use Rattle.word_run.specs.Desks.{DeskState, IsSliceOf};
+    ghost use Rattle.word_run.specs.Desks.{DeskState};
+    ghost use Rattle.word_run.specs.Loaders.{IsUnderLock};
 
     ghost Value = { DeskState };
 
@@ -42,15 +48,15 @@ impl<K: Naming, N: RunName, T: TableName, I: InboxNames, E: RoundName> Model
 
     ghost view = { λ s. s.desk };
 
-    ghost invariant = { λ s. IsSliceOf E.began s.desk };
+    ghost invariant = { λ s. IsUnderLock E.began E.answered s.desk };
 }
 
 impl<K: Naming, N: RunName, T: TableName, I: InboxNames, E: RoundName> Slicing<K, N, T, I, E> {
-    ghost use Rattle.word_run.specs.Desks.{IsSliceOf};
+    ghost use Rattle.word_run.specs.Loaders.{IsUnderLock};
 
     /// What the type keeps is known of it.
     pub fn stands(&self)
-        ensures { IsSliceOf E.began self.now }
+        ensures { IsUnderLock E.began E.answered self.now }
     {
         let _homes = self.desk.posters.len();
     }

@@ -12,7 +12,7 @@ loop-init g c = taken_begins _ _ _ _ _ _ c.requires.token c.requires.between c.r
 pub loop-preserved : goal.loop-preserved
 loop-preserved g c =
     let came = c.take_one.ensures in
-    taken_goes_on _ _ _ _ _ _ _ _ _ _ _ _ _ c.loop.invariant c.in-Some-take.ensures.taken came.token came.number came.between came.all came.kept
+    taken_goes_on _ _ _ _ _ _ _ _ _ _ _ _ _ c.loop.invariant c.in-Some-take.ensures.taken came.token came.number came.between came.all came.kept came.came
 
 -- and nothing more at the end
 pub returns-in_default-clause-kept : goal.returns-in_default-clause-kept

@@ -3,7 +3,8 @@ use Rattle.std.specs.Prelude.{slice_set}
 use Rattle.anchors.specs.Holds.{view_of}
 use Rattle.run_law.specs.Newcomers.{SpawnedProcess}
 use Rattle.word_lap.specs.Schedulers.{KeepsProcesses}
-use Rattle.word_lap.proofs.Welcomes.{note_of, note_own, noted_in, welcome_keeps, welcome_token}
+use Rattle.word_lap.specs.Taking.{HaveCome}
+use Rattle.word_lap.proofs.Welcomes.{note_of, note_own, noted_in, welcome_comes, welcome_keeps, welcome_token}
 use Rattle.word_lap.proofs.taking.welcome.Goals as goal
 
 pub learn-requires-clause-note : goal.learn-requires-clause-note
@@ -36,3 +37,16 @@ returns-clause-kept g c = λ taken kept.
     c.requires.token caught.token caught.number caught.between caught.reported (subst (λ n. n ≤ c.catch_up.result) (ap (λ (x : SpawnedProcess). x.published) c.newcomer.view_is) caught.caught)
     (noted_in g.T.TableName.table here.table_id c.args.newcomer.number c.args.newcomer.published c.begin-run.result.1 c.requires.table began.note) c.learn.ensures.joined
     (record { number = began.number; target = began.target; args = began.args; turns = began.turns; frames = began.frames; spans = began.spans; fin = began.fin }) c.requires.free taken kept)
+
+-- and no process had a turn
+pub returns-clause-came : goal.returns-clause-came
+returns-clause-came g c =
+    let here = c.args.shared.now.table.shared in
+    let began = c.begin-run.ensures in
+    let caught = c.catch_up.ensures in
+    subst (λ n. HaveCome (view_of c.args.member.now) (view_of c.learn.new.member) c.args.processes.now (slice_set c.args.processes.now n (Some c.begin-run.result.0)))
+    (sym (ap (λ (x : SpawnedProcess). x.number) c.newcomer.view_is))
+    (welcome_comes g.K.Naming.names here.key here.table_id c.args.member.now c.catch_up.new.member c.learn.new.member c.begin-run.result.1 c.args.newcomer c.begin-run.result.0 c.catch_up.result c.args.processes.now
+    c.requires.token caught.token caught.number caught.between caught.reported (subst (λ n. n ≤ c.catch_up.result) (ap (λ (x : SpawnedProcess). x.published) c.newcomer.view_is) caught.caught)
+    (noted_in g.T.TableName.table here.table_id c.args.newcomer.number c.args.newcomer.published c.begin-run.result.1 c.requires.table began.note) c.learn.ensures.joined
+    (record { number = began.number; target = began.target; args = began.args; turns = began.turns; frames = began.frames; spans = began.spans; fin = began.fin }) c.requires.free)

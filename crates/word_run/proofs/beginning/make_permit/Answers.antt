@@ -46,6 +46,9 @@ new-requires-2-clause-opening g c = ap (λ (w : writers.Writer). (written_by w).
 pub new-requires-2-clause-notes : goal.new-requires-2-clause-notes
 new-requires-2-clause-notes g c = ap (λ (w : writers.Writer). (written_by w).notes) c.in_ok-tables.ensures.writer ∙ c.requires.writer.notes
 
+pub new-requires-2-clause-drops : goal.new-requires-2-clause-drops
+new-requires-2-clause-drops g c = ap (λ (w : writers.Writer). (written_by w).looks.dropped) c.in_ok-tables.ensures.writer ∙ c.requires.writer.drops
+
 pub returns-clause-script_is : goal.returns-clause-script_is
 returns-clause-script_is g c = c.in_ok-permit.ensures.begun.script_is ∙ c.in_ok-copy.ensures
 

@@ -80,3 +80,11 @@ returns-clause-history g c =
 
 pub returns-clause-table : goal.returns-clause-table
 returns-clause-table g c = c.in_ok-closed.ensures.table ∙ ap (λ s. s.table.shared.table_id) c.in_ok-ended.ensures.shared
+
+-- each member came in
+pub returns-clause-members : goal.returns-clause-members
+returns-clause-members g c =
+    let here = c.args.run.shared.table.shared in
+    let is = c.in_ok-ended.ensures.gathered in
+    let token = writer_token g.K.Naming.names c.args.script.now here.table_id here.key c.args.run.desk c.args.run.inboxes.items c.args.run.seats.items c.args.run.sight c.requires.run g.N.RunName.run c.requires.words is.kept c.in_ok-ended.ended.gathered.writer is.writer_is in
+    c.in_ok-closed.ensures.members.long ∙ token.made

@@ -4,4 +4,4 @@ use Rattle.word_run.proofs.loaders.step_loaders.Given as goal
 
 -- the first loaders were asked
 abbrev pub invariant-loop-who : goal.invariant-loop-who
-invariant-loop-who g l = TellsOfLoaders g.E.RoundName.began l.number (length l.inboxes) l.who l.over
+invariant-loop-who g l = TellsOfLoaders g.E.RoundName.answered l.number (length l.inboxes) l.who l.over

@@ -3,7 +3,7 @@ use Rattle.word_run.proofs.round.named_round.Goals as goal
 
 -- nothing was made as the round begins
 pub of_round-requires : goal.of_round-requires
-of_round-requires g c = named_begins _ _ c.requires.began
+of_round-requires g c = named_begins _ _ _ c.requires.began c.requires.answers
 
 pub take_both-both-requires-clause-homes : goal.take_both-both-requires-clause-homes
 take_both-both-requires-clause-homes g c = λ κs within. named_homes _ _ _ c.requires.began c.requires.homes

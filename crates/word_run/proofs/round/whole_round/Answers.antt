@@ -25,3 +25,7 @@ named_round-desk-requires-clause-go g c = λ κs within.
 pub named_round-desk-requires-clause-observe : goal.named_round-desk-requires-clause-observe
 named_round-desk-requires-clause-observe g c = λ κs within.
     onlookers_go g.K.Naming.names c.args.functions.now c.args.run.shared.table.shared.table_id c.args.run.desk.book.plain.script.observers c.args.run.onlookers.items c.requires.onlookers
+
+-- an answer is what some desk since the round began tells of a loader
+pub named_round-desk-requires-clause-answers : goal.named_round-desk-requires-clause-answers
+named_round-desk-requires-clause-answers g c = λ κs within. λ desk who over since tells. record { desk = desk; since = since; tells = tells }

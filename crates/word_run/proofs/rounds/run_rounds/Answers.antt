@@ -23,6 +23,7 @@ loop-preserved g c =
     let had = c.turn_round-turned.result in
     record {
       table = (λ i. (words i).table.shared.table_id) ∙ c.loop.invariant.table;
+      members = (λ i. (words i).table.shared.key.members) ∙ c.loop.invariant.members;
       words = words_as g.N.RunName.run _ _ _ _ (λ i. (words i).table.shared.table_id) (λ i. (words i).table.shared.key) c.loop.invariant.words;
       run =
           run_as g.K.Naming.names c.loop.run.desk.book.plain.script c.args.script.now c.loop.run.shared.table.shared.table_id had.0.shared.table.shared.table_id c.loop.run.shared.table.shared.key had.0.shared.table.shared.key
@@ -65,3 +66,8 @@ finish-requires-clause-onlookers g c =
 -- the words at the end are those of the beginning
 pub returns-then-over-clause-table : goal.returns-then-over-clause-table
 returns-then-over-clause-table g c = IfOk-weaker c.finish.result _ _ (λ ran is. is ∙ (λ i. (c.turn_round-turned.ensures.shared i).table.shared.table_id) ∙ c.loop.invariant.table) c.finish.ensures.table
+
+-- and so are their members
+pub returns-then-over-clause-members : goal.returns-then-over-clause-members
+returns-then-over-clause-members g c =
+    IfOk-weaker c.finish.result _ _ (λ ran is. is ∙ (λ i. (c.turn_round-turned.ensures.shared i).table.shared.key.members) ∙ c.loop.invariant.members) c.finish.ensures.members

@@ -1,4 +1,5 @@
 use Rattle.std.proofs.Common.{◌+◌, [], ◌<◌, sym, ap, ap₂, subst, ◌∙◌, arith}
+use Rattle.std.proofs.lemmas.Result.{IfOk-weaker}
 use Rattle.shared_words.specs.Making.{AreMembersBegun, AreWatchersBegun, IsHanding}
 use Rattle.word_run.specs.Beginning.{exports_after}
 use Rattle.word_run.proofs.Exported.{functions_are_one}
@@ -29,3 +30,7 @@ run_on-requires-clause-watchers g c κs within = subst (λ n. AreWatchersBegun c
 
 pub run_on-requires-clause-enough : goal.run_on-requires-clause-enough
 run_on-requires-clause-enough g c κs within = omega (arith, c.in_ok-shared.ensures.opening.1, c.len-observers.ensures, c.requires.script.few_observers)
+
+-- as many as were asked for
+pub returns-clause-members : goal.returns-clause-members
+returns-clause-members g c = IfOk-weaker c.run_on.result _ _ (λ ran is. is ∙ c.in_ok-shared.ensures.opening.0) c.run_on.ensures.members

@@ -22,3 +22,6 @@ run_rounds-requires-clause-onlookers g c κs within =
 -- the words at the end are these
 pub returns-clause-table : goal.returns-clause-table
 returns-clause-table g c = IfOk-weaker c.run_rounds.result _ _ (λ ran is. is ∙ (λ i. (c.in_ok-run.ensures.shared i).table.shared.table_id)) c.run_rounds.ensures.table
+
+pub returns-clause-members : goal.returns-clause-members
+returns-clause-members g c = IfOk-weaker c.run_rounds.result _ _ (λ ran is. is ∙ (λ i. (c.in_ok-run.ensures.shared i).table.shared.key.members)) c.run_rounds.ensures.members

@@ -1,4 +1,4 @@
-use Rattle.word_run.proofs.finishing.part.Goals as goal
+use Rattle.word_run.proofs.parted.part.Goals as goal
 
 pub returns : goal.returns
 returns g c = record {

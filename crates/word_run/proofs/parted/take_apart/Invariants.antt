@@ -1,5 +1,5 @@
 use Rattle.word_run.specs.Finished.{AreParted}
-use Rattle.word_run.proofs.finishing.take_apart.Given as goal
+use Rattle.word_run.proofs.parted.take_apart.Given as goal
 
 -- the first schedulers gave back what they have
 abbrev pub invariant-loop-seat : goal.invariant-loop-seat

@@ -4,7 +4,7 @@ use Rattle.std.proofs.lemmas.Iterator.Consumers.{YieldsList-end}
 use Rattle.std.proofs.lemmas.List.{map-id}
 use Rattle.word_run.specs.Finished.{AreParted}
 use Rattle.word_run.proofs.Parting.{none_parted, parted_next}
-use Rattle.word_run.proofs.finishing.take_apart.Goals as goal
+use Rattle.word_run.proofs.parted.take_apart.Goals as goal
 
 -- none yet
 pub loop-seat-init : goal.loop-seat-init
