@@ -5,7 +5,7 @@ use Rattle.term_core.specs.declared.hold.TheConstants.{MOST_AREAS}
 use Rattle.term_core.specs.declared.no_memory.NoMemory.{NoMemory}
 use Rattle.term_core.specs.declared.atom.Mfa.{Mfa}
 use Rattle.term_core.specs.PlainTerm.{PlainTerm}
-use Rattle.server_core.specs.ServerState.{IsSound, ServerState}
+use Rattle.server_core.specs.ServerState.{ServerState}
 use Rattle.machine_core.specs.declared.process.Line.{Line}
 use Rattle.machine_core.specs.declared.process.Process.{Process}
 use Rattle.machine_core.specs.declared.process.TurnEnd.{TurnEnd}
@@ -61,8 +61,3 @@ goes_again r s view before after later old now ready same gives again =
 pub goes_new : (r : Result Process NoMemory) (number : ℕ) (target : Mfa) (args : List PlainTerm) → ((words : Words) → IfOk r (λ p. process_of words p ≡ new_process number target args)) → IfOk r (λ p. (s : ServerState) → MayGoOn s p)
 goes_new (Ok p) number target args h = λ s. goes_first s p number target args (h (server_words s))
 goes_new (Err refused) number target args h = tt
-
--- a server that made some commands, and a process that may go on beside it
-pub record GoOn (server : ServerState) (p : Process) : Type 0 where
-  pub sound : IsSound server
-  pub goes : MayGoOn server p

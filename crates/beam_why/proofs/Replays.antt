@@ -24,8 +24,3 @@ areas_more a b c f g = record {
 -- and after a command that was made
 pub areas_made : (texts : List Module) (s t : ServerState) (cmd : Cmd) (answer : Applied) → IsSound s → apply_of texts s cmd ≡ Some (record { state = t; answer = answer }) → HasAreas s t
 areas_made texts s t cmd answer sound e = subst (HasAreas s) (ap (state_after s) e) (areas_stay texts s cmd (sound_below s sound))
-
--- a server that made some commands is sound, and has the areas that it had
-pub record IsKept (before now : ServerState) : Type 0 where
-  pub sound : IsSound now
-  pub areas : HasAreas before now

@@ -1,48 +1,30 @@
 // What is missing in a log, is too much, or is of a generation that was not published.
+use crate::expected::Expected;
 use crate::finding::Finding;
-use crate::shown::call_text;
+use crate::shown::quote_call;
 use legality::Place;
 use run_log::{ProcessLog, RunLog, SnapshotList};
 use script_core::{CommandList, Script, ScriptCmd};
 use std::alloc::Global;
 use term_core::NoMemory;
 
-/// What is missing in a log, or is of a generation that was not published.
+/// What is missing in a log, is too much, or is of a generation that was not published.
 pub fn expected_part(
     alloc: Global,
     script: &Script,
     log: &RunLog,
-) -> Result<Option<Finding>, NoMemory> {
-    if let Some(finding) = expected_process(alloc, script, log)? {
-        return Ok(Some(finding));
-    }
-    expected_observer(alloc, script, log)
-}
-
-/// The first process that is not as the script spawns it, or that has no turn or one of a generation that was not published.
-fn expected_process(
-    alloc: Global,
-    script: &Script,
-    log: &RunLog,
+    expected: &mut Expected,
 ) -> Result<Option<Finding>, NoMemory> {
     if let Some(number) = first_other(script, log) {
-        return Ok(Some(spawn_of(alloc, script, number)?));
+        say_spawn(alloc, script, number, expected)?;
+        return Ok(Some(Finding::new(Place::Process(number))));
     }
     let published = published_in(log);
-    for (number, process) in log.processes.as_slice().iter().enumerate() {
-        if process.spans.is_empty() {
-            let at = Place::Process(number);
-            return Ok(Some(Finding::of(alloc, at, b"a turn of this process")?));
-        }
-        if let Some(place) = unpublished_span(process, published) {
-            let at = Place::Span {
-                process: number,
-                span: place,
-            };
-            return Ok(Some(up_to(alloc, at, published)?));
-        }
-    }
-    Ok(None)
+    let Some(at) = first_unfit(script, log, published) else {
+        return Ok(None);
+    };
+    say_unfit(script, log, at, published, expected)?;
+    Ok(Some(Finding::new(at)))
 }
 
 /// The first number at which the log has another process than the script spawns, or one of both has none.
@@ -69,22 +51,20 @@ fn is_log_of(process: &ProcessLog, spawn: Option<&ScriptCmd>) -> bool {
     }
 }
 
-/// The process that the script spawns by this number as what was expected, or that it spawns no further one.
-fn spawn_of(alloc: Global, script: &Script, number: usize) -> Result<Finding, NoMemory> {
-    let finding = Finding::new(alloc, Place::Process(number));
+/// Says the process that the script spawns by this number, or that it spawns no further one.
+fn say_spawn(
+    alloc: Global,
+    script: &Script,
+    number: usize,
+    expected: &mut Expected,
+) -> Result<(), NoMemory> {
     match spawn_at(script, number) {
         Some(ScriptCmd::Spawn { target, args }) => {
-            let text = call_text(alloc, &script.names, *target, args)?;
-            finding
-                .say(b"a log of process ")?
-                .say_number(number as u64)?
-                .say(b", ")?
-                .quote(text.as_slice())
+            expected.say_number(b"a log of process ", number as u64)?;
+            expected.say(b", ")?;
+            quote_call(alloc, &script.names, *target, args, expected)
         }
-        _ => {
-            let said = finding.say(b"no further process: the script spawns ")?;
-            said.say_number(number as u64)
-        }
+        _ => expected.say_number(b"no further process: the script spawns ", number as u64),
     }
 }
 
@@ -112,34 +92,43 @@ fn spawn_in<'a>(commands: &'a CommandList, left: &mut usize) -> Option<&'a Scrip
     None
 }
 
-/// The first observer that is missing, is too many, or saw a generation that was not published.
-fn expected_observer(
-    alloc: Global,
-    script: &Script,
-    log: &RunLog,
-) -> Result<Option<Finding>, NoMemory> {
+/// The first place that lacks something, or is of a generation that was not published.
+fn first_unfit(script: &Script, log: &RunLog, published: u64) -> Option<Place> {
+    match unfit_process(log, published) {
+        Some(at) => Some(at),
+        None => unfit_observer(script, log, published),
+    }
+}
+
+/// The first process that has no turn, or the first span of one under a generation that was not published.
+fn unfit_process(log: &RunLog, published: u64) -> Option<Place> {
+    for (process, told) in log.processes.as_slice().iter().enumerate() {
+        if told.spans.is_empty() {
+            return Some(Place::Process(process));
+        }
+        if let Some(span) = unpublished_span(told, published) {
+            return Some(Place::Span { process, span });
+        }
+    }
+    None
+}
+
+/// The first observer that is missing or is too many, or the first snapshot of a generation that was not published.
+fn unfit_observer(script: &Script, log: &RunLog, published: u64) -> Option<Place> {
     let wanted = script.observers.len();
     if log.observers.len() != wanted {
         let observer = log.observers.len().min(wanted);
-        let at = Place::Snapshot {
+        return Some(Place::Snapshot {
             observer,
             snapshot: 0,
-        };
-        let said = Finding::of(
-            alloc,
-            at,
-            b"what each observer of the script saw, so many: ",
-        )?;
-        return Ok(Some(said.say_number(wanted as u64)?));
+        });
     }
-    let published = published_in(log);
     for (observer, shots) in log.observers.as_slice().iter().enumerate() {
         if let Some(snapshot) = unpublished_snapshot(shots, published) {
-            let at = Place::Snapshot { observer, snapshot };
-            return Ok(Some(up_to(alloc, at, published)?));
+            return Some(Place::Snapshot { observer, snapshot });
         }
     }
-    Ok(None)
+    None
 }
 
 fn unpublished_snapshot(shots: &SnapshotList, published: u64) -> Option<usize> {
@@ -151,10 +140,6 @@ fn unpublished_snapshot(shots: &SnapshotList, published: u64) -> Option<usize> {
     None
 }
 
-fn up_to(alloc: Global, at: Place, published: u64) -> Result<Finding, NoMemory> {
-    Finding::of(alloc, at, b"a generation that was published: 0 to ")?.say_number(published)
-}
-
 fn unpublished_span(process: &ProcessLog, published: u64) -> Option<usize> {
     for (place, span) in process.spans.as_slice().iter().enumerate() {
         if span.generation > published {
@@ -164,6 +149,7 @@ fn unpublished_span(process: &ProcessLog, published: u64) -> Option<usize> {
     None
 }
 
+/// How many generations the log publishes.
 fn published_in(log: &RunLog) -> u64 {
     let mut count = 0u64;
     for entry in log.journal.as_slice() {
@@ -172,4 +158,23 @@ fn published_in(log: &RunLog) -> u64 {
         }
     }
     count
+}
+
+/// Says what was expected at a place that lacks something, or is of a generation that was not published.
+fn say_unfit(
+    script: &Script,
+    log: &RunLog,
+    at: Place,
+    published: u64,
+    expected: &mut Expected,
+) -> Result<(), NoMemory> {
+    let wanted = script.observers.len();
+    match at {
+        Place::Process(_) => expected.say(b"a turn of this process"),
+        Place::Snapshot { .. } if log.observers.len() != wanted => expected.say_number(
+            b"what each observer of the script saw, so many: ",
+            wanted as u64,
+        ),
+        _ => expected.say_number(b"a generation that was published: 0 to ", published),
+    }
 }

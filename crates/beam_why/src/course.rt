@@ -4,18 +4,19 @@ ghost use Rattle.server_core.specs.ServerState.{ServerState};
 ghost use Rattle.server_core.specs.CommandTable.{AreTexts, IsOfText};
 ghost use Rattle.span_check.specs.Standings.{MayGoOn};
 
+use crate::expected::Expected;
 use crate::finding::Finding;
+use crate::inquiry::Inquiry;
 use crate::lines::{end_line, span_line};
-use crate::replay::Replay;
-use crate::shown::{end_text, line_text};
-use crate::sightings::{Sightings, Telling};
+use crate::shown::{quote_end, quote_line};
 use crate::turns::{Stop, take_span};
 use legality::Place;
-use machine_core::{End, Process};
+use machine_core::{End, LineList, Process};
 use run_log::{ProcessLog, RunLog};
 use script_core::Script;
 use std::alloc::Global;
-use term_core::NoMemory;
+use std::mem;
+use term_core::{Names, NoMemory};
 
 /// The first place where a process does not go on as its log tells, if it was found.
 pub fn expected_turn(
@@ -23,94 +24,48 @@ pub fn expected_turn(
     script: &Script,
     log: &RunLog,
     number: usize,
+    inquiry: &mut Inquiry,
 ) -> Result<Option<Finding>, NoMemory>
     requires texts { AreTexts script.now.modules }
     requires put { All (λ e. IsOfText e.cmd) log.now.journal }
 {
-    let Some(process_log) = log.processes.get(number) else {
-        return Ok(None);
-    };
-    let Some(mut process) = start(alloc, number, process_log)? else {
-        return Ok(None);
-    };
-    let mut none = Sightings::none(alloc);
-    match walk(
-        alloc,
-        script,
-        log,
-        process_log,
-        u64::MAX,
-        &mut none,
-        &mut process,
-    )? {
-        Some((span, stop)) => found(alloc, script, log, number, span, stop),
-        None => Ok(Some(going_on(alloc, log, number, process_log)?)),
+    match go_along(alloc, script, log, number, u64::MAX, inquiry)? {
+        Some((span, stop)) => {
+            let below = say_stop(alloc, &script.names, stop, inquiry)?;
+            Ok(below_head(log, number, span, below))
+        }
+        None => Ok(Some(going_on(log, number, &mut inquiry.expected)?)),
     }
 }
 
-/// A process behind its last turn up to a generation. Nothing where that is not known.
-pub fn process_at(
+/// Goes along the log of a process to its last turn up to a generation, and looks at it before each turn and at the end. Answers in
+/// which span the way stops, and why, if it does.
+pub fn go_along(
     alloc: Global,
     script: &Script,
     log: &RunLog,
     number: usize,
     generation: u64,
-) -> Result<Option<Process>, NoMemory>
+    inquiry: &mut Inquiry,
+) -> Result<Option<(usize, Stop)>, NoMemory>
     requires texts { AreTexts script.now.modules }
     requires put { All (λ e. IsOfText e.cmd) log.now.journal }
 {
     let Some(process_log) = log.processes.get(number) else {
-        return Ok(None);
+        return Ok(Some((0, Stop::Unknown)));
     };
     let Some(mut process) = start(alloc, number, process_log)? else {
-        return Ok(None);
+        return Ok(Some((0, Stop::Unknown)));
     };
-    let mut none = Sightings::none(alloc);
-    match walk(
+    walk(
         alloc,
         script,
         log,
         process_log,
         generation,
-        &mut none,
+        inquiry,
         &mut process,
-    )? {
-        None | Some((_, Stop::Told)) => Ok(Some(process)),
-        Some(_) => Ok(None),
-    }
-}
-
-/// The first place of the journal where it is told of a process what is not so, if that is seen as far as its way is known.
-pub fn see_along(
-    alloc: Global,
-    script: &Script,
-    log: &RunLog,
-    number: usize,
-    tellings: Vec<Telling>,
-) -> Result<Option<usize>, NoMemory>
-    requires texts { AreTexts script.now.modules }
-    requires put { All (λ e. IsOfText e.cmd) log.now.journal }
-{
-    let Some(process_log) = log.processes.get(number) else {
-        return Ok(None);
-    };
-    let Some(mut process) = start(alloc, number, process_log)? else {
-        return Ok(None);
-    };
-    let mut seen = Sightings::new(tellings);
-    match walk(
-        alloc,
-        script,
-        log,
-        process_log,
-        u64::MAX,
-        &mut seen,
-        &mut process,
-    )? {
-        None | Some((_, Stop::Told)) => seen.look(&process),
-        Some(_) => {}
-    }
-    Ok(seen.absent)
+    )
 }
 
 /// A process before its first turn. Nothing where its log has not as many arguments as its function.
@@ -135,53 +90,63 @@ fn begun(alloc: Global, number: u32, log: &ProcessLog) -> Result<Process, NoMemo
     Process::new(alloc, number, log.target, args)
 }
 
-/// Goes along the log of a process that has had no turn, to its last turn up to a generation, and looks at it before each turn. Answers
-/// in which span the way stops, and why, if it does.
+/// Goes the way of a process that has had no turn, and looks at it at the end.
 fn walk(
     alloc: Global,
     script: &Script,
     log: &RunLog,
     process_log: &ProcessLog,
     generation: u64,
-    seen: &mut Sightings,
+    inquiry: &mut Inquiry,
     process: &mut Process,
 ) -> Result<Option<(usize, Stop)>, NoMemory>
     requires texts { AreTexts script.now.modules }
     requires put { All (λ e. IsOfText e.cmd) log.now.journal }
     requires goes { (s : ServerState) → MayGoOn s process.old }
 {
-    let mut replay = Replay::new(alloc)?;
+    let stop = walk_spans(
+        alloc,
+        script,
+        log,
+        process_log,
+        generation,
+        inquiry,
+        process,
+    )?;
+    if let None | Some((_, Stop::Told)) = stop {
+        inquiry.seen.look_last(process);
+    }
+    Ok(stop)
+}
+
+/// Goes from span to span, while the journal is made again.
+fn walk_spans(
+    alloc: Global,
+    script: &Script,
+    log: &RunLog,
+    process_log: &ProcessLog,
+    generation: u64,
+    inquiry: &mut Inquiry,
+    process: &mut Process,
+) -> Result<Option<(usize, Stop)>, NoMemory>
+    requires texts { AreTexts script.now.modules }
+    requires put { All (λ e. IsOfText e.cmd) log.now.journal }
+    requires goes { (s : ServerState) → MayGoOn s process.old }
+{
+    inquiry.replay.restart(alloc)?;
     for (place, span) in process_log.spans.as_slice().iter().enumerate() {
         if span.generation > generation {
             return Ok(None);
         }
+        let replay = &mut inquiry.replay;
         replay.make_generation(span.generation, &log.journal, &script.modules)?;
         let fin = fin_at(process_log, place);
-        if let Some(stop) = take_span(alloc, &replay.server, span, fin, seen, process)? {
+        let seen = &mut inquiry.seen;
+        if let Some(stop) = take_span(alloc, &inquiry.replay.server, span, fin, seen, process)? {
             return Ok(Some((place, stop)));
         }
     }
     Ok(None)
-}
-
-/// That the process goes on behind its last span.
-fn going_on(
-    alloc: Global,
-    log: &RunLog,
-    number: usize,
-    process_log: &ProcessLog,
-) -> Result<Finding, NoMemory> {
-    let last = process_log.spans.len().saturating_sub(1);
-    let at = Place::Span {
-        process: number,
-        span: last,
-    };
-    let finding = Finding::of(
-        alloc,
-        at,
-        b"another turn before its end, since the process goes on",
-    )?;
-    Ok(finding.on_line(end_line(log, number)))
 }
 
 /// The end of the process, where this is its last span.
@@ -192,40 +157,57 @@ fn fin_at(process: &ProcessLog, place: usize) -> Option<End> {
     None
 }
 
-/// What was expected where the way along a log stopped.
-fn found(
+/// That the process goes on behind its last span.
+fn going_on(log: &RunLog, number: usize, expected: &mut Expected) -> Result<Finding, NoMemory> {
+    expected.say(b"another turn before its end, since the process goes on")?;
+    let spans = log
+        .processes
+        .get(number)
+        .map_or(0, |process| process.spans.len());
+    let at = Place::Span {
+        process: number,
+        span: spans.saturating_sub(1),
+    };
+    Ok(Finding::on_line(at, end_line(log, number)))
+}
+
+/// A span of a process, with the line so far below its head, if that is known.
+fn below_head(log: &RunLog, process: usize, span: usize, below: Option<usize>) -> Option<Finding> {
+    let line = span_line(log, process, span).saturating_add(below?);
+    Some(Finding::on_line(Place::Span { process, span }, line))
+}
+
+/// Says what was expected where the way along a log stopped. Answers how many lines below the head of the span that is, if it is
+/// known.
+fn say_stop(
     alloc: Global,
-    script: &Script,
-    log: &RunLog,
-    process: usize,
-    span: usize,
+    names: &Names,
     stop: Stop,
-) -> Result<Option<Finding>, NoMemory> {
-    let finding = Finding::new(alloc, Place::Span { process, span });
-    let names = &script.names;
-    let (below, said) = match stop {
-        Stop::Other(at, made, number) => {
-            let text = line_text(alloc, names, made, number)?;
-            let said = finding.say(b"the line ")?.quote(text.as_slice())?;
-            (at.saturating_add(1), said)
+    inquiry: &mut Inquiry,
+) -> Result<Option<usize>, NoMemory> {
+    let expected = &mut inquiry.expected;
+    match stop {
+        Stop::Other(at, number) => {
+            expected.say(b"the line ")?;
+            let made = mem::replace(&mut inquiry.seen.made, LineList::new(alloc));
+            quote_line(alloc, names, made, number, expected)?;
+            Ok(Some(at.saturating_add(1)))
         }
         Stop::Ending(at, end) => {
-            let text = end_text(alloc, names, end)?;
-            let said = finding.say(b"the end of the process, ")?;
-            (at.saturating_add(1), said.quote(text.as_slice())?)
+            expected.say(b"the end of the process, ")?;
+            quote_end(alloc, names, end, expected)?;
+            Ok(Some(at.saturating_add(1)))
         }
         Stop::Early(turns, end) => {
-            let text = end_text(alloc, names, end)?;
-            let said = finding.say_number(turns)?;
-            let said = said.say(b" as the count of turns, since the process then ends as ")?;
-            (0, said.quote(text.as_slice())?)
+            expected.say_number(b"", turns)?;
+            expected.say(b" as the count of turns, since the process then ends as ")?;
+            quote_end(alloc, names, end, expected)?;
+            Ok(Some(0))
         }
         Stop::Nothing(at) => {
-            let said = finding.say(b"no further line of these turns")?;
-            (at.saturating_add(1), said)
+            expected.say(b"no further line of these turns")?;
+            Ok(Some(at.saturating_add(1)))
         }
-        Stop::Told | Stop::Unknown => return Ok(None),
-    };
-    let line = span_line(log, process, span).saturating_add(below);
-    Ok(Some(said.on_line(line)))
+        Stop::Told | Stop::Unknown => Ok(None),
+    }
 }

@@ -2,31 +2,25 @@
 ghost use Rattle.std.specs.Prelude.{All};
 ghost use Rattle.server_core.specs.CommandTable.{AreTexts, IsOfText};
 
-use crate::course::see_along;
+use crate::course::go_along;
+use crate::expected::Expected;
 use crate::finding::Finding;
-use crate::replay::Replay;
-use crate::sightings::Telling;
+use crate::inquiry::Inquiry;
+use crate::sightings::{Sightings, Telling};
 use legality::Place;
 use run_log::{Entry, ProcessLog, RunLog};
 use script_core::Script;
-use server_core::{Cmd, Linger};
+use server_core::{Cmd, Linger, Server};
 use std::alloc::Global;
 use term_core::{AtomId, NoMemory};
 
 /// A soft purge that tells of a process another turn than one of those that it was after by then.
-#[derive(Drop)]
+#[derive(Clone, Copy)]
 struct OtherTurn {
     place: usize,
     linger: Linger,
     least: u64,
     most: u64,
-}
-
-/// What soft purges tell of a process, up to the first that is wrong by its turn alone.
-#[derive(Drop)]
-struct Told {
-    tellings: Vec<Telling>,
-    other: Option<OtherTurn>,
 }
 
 /// The first soft purge that tells of this process what is not so, if it was found.
@@ -35,38 +29,31 @@ pub fn expected_linger(
     script: &Script,
     log: &RunLog,
     process: usize,
+    inquiry: &mut Inquiry,
 ) -> Result<Option<Finding>, NoMemory>
     requires texts { AreTexts script.now.modules }
     requires put { All (λ e. IsOfText e.cmd) log.now.journal }
 {
-    let Some(process_log) = log.processes.get(process) else {
-        return Ok(None);
-    };
-    let told = told_of(alloc, script, log, process, process_log)?;
-    if let Some(place) = see_along(alloc, script, log, process, told.tellings)? {
-        return stands_not(alloc, log, place);
-    }
-    match told.other {
-        Some(other) => Ok(Some(other_turn(alloc, other)?)),
-        None => Ok(None),
+    let other = first_other_turn(alloc, script, log, process, inquiry)?;
+    go_along(alloc, script, log, process, u64::MAX, inquiry)?;
+    match inquiry.seen.absent {
+        Some(place) => stands_not(log, place, &mut inquiry.expected),
+        None => told_otherwise(other, &mut inquiry.expected),
     }
 }
 
 /// That an entry tells of a process which the script does not spawn.
 pub fn expected_other_process(
-    alloc: Global,
     log: &RunLog,
     place: usize,
+    expected: &mut Expected,
 ) -> Result<Option<Finding>, NoMemory> {
-    let Some(entry) = log.journal.get(place) else {
+    let Some((_, linger)) = log.journal.get(place).and_then(told_by) else {
         return Ok(None);
     };
-    let Some((_, linger)) = told_by(entry) else {
-        return Ok(None);
-    };
-    let at = Place::Entry(place);
-    let said = Finding::of(alloc, at, b"another answer: the script spawns no process ")?;
-    Ok(Some(said.say_number(u64::from(linger.process))?))
+    let number = u64::from(linger.process);
+    expected.say_number(b"another answer: the script spawns no process ", number)?;
+    Ok(Some(Finding::new(Place::Entry(place))))
 }
 
 /// The module of a soft purge, and who lingers in its old code, if one does.
@@ -80,81 +67,76 @@ fn told_by(entry: &Entry) -> Option<(AtomId, Linger)> {
     }
 }
 
-/// What the journal tells of a process.
-fn told_of(
+/// The first soft purge that is wrong by the turn alone that it tells of a process. What is told before it is taken in, to be looked
+/// at on the way of the process.
+fn first_other_turn(
     alloc: Global,
     script: &Script,
     log: &RunLog,
     process: usize,
-    process_log: &ProcessLog,
-) -> Result<Told, NoMemory>
+    inquiry: &mut Inquiry,
+) -> Result<Option<OtherTurn>, NoMemory>
     requires texts { AreTexts script.now.modules }
     requires put { All (λ e. IsOfText e.cmd) log.now.journal }
 {
-    let turns = TurnCount::new(alloc, process_log)?;
-    let mut told = Told {
-        tellings: Vec::new(alloc),
-        other: None,
+    let Some(process_log) = log.processes.get(process) else {
+        return Ok(None);
     };
-    let mut replay = Replay::new(alloc)?;
-    for (place, entry) in log.journal.as_slice().iter().enumerate() {
-        told.take(&replay, &turns, place, entry, process)?;
-        if told.other.is_some() {
-            break;
-        }
-        replay.step(&log.journal, &script.modules)?;
-    }
-    Ok(told)
+    let turns = TurnCount::new(alloc, process_log)?;
+    inquiry.replay.restart(alloc)?;
+    let other = take_tellings(script, log, process, &turns, inquiry)?;
+    inquiry.seen.sort();
+    Ok(other)
 }
 
-impl Told {
-    /// Takes in what the entry at a place tells of a process. The journal was made again up to it.
-    fn take(
-        &mut self,
-        replay: &Replay,
-        turns: &TurnCount,
-        place: usize,
-        entry: &Entry,
-        process: usize,
-    ) -> Result<(), NoMemory> {
-        match told_by(entry) {
-            Some((module, linger)) if linger.process as usize == process => {
-                self.add(replay, turns, place, module, linger)
+/// Takes in what the journal tells of a process, while it is made again, up to what is wrong by its turn alone.
+fn take_tellings(
+    script: &Script,
+    log: &RunLog,
+    process: usize,
+    turns: &TurnCount,
+    inquiry: &mut Inquiry,
+) -> Result<Option<OtherTurn>, NoMemory>
+    requires texts { AreTexts script.now.modules }
+    requires put { All (λ e. IsOfText e.cmd) log.now.journal }
+{
+    for (place, entry) in log.journal.as_slice().iter().enumerate() {
+        if let Some((module, linger)) = told_of(entry, process) {
+            let old = inquiry.replay.server.old(module);
+            let generation = inquiry.replay.server.generation();
+            if let Some(other) = turns.other_turn(generation, place, linger) {
+                return Ok(Some(other));
             }
-            _ => Ok(()),
+            take_telling(place, linger, old, &mut inquiry.seen)?;
         }
+        inquiry.replay.step(&log.journal, &script.modules)?;
     }
+    Ok(None)
+}
 
-    /// Adds what the soft purge at a place tells, before which the journal was made again.
-    fn add(
-        &mut self,
-        replay: &Replay,
-        turns: &TurnCount,
-        place: usize,
-        module: AtomId,
-        linger: Linger,
-    ) -> Result<(), NoMemory> {
-        let generation = replay.server.generation();
-        let least = turns.before(generation);
-        let most = turns.before(generation.saturating_add(1));
-        let turn = u64::from(linger.turn);
-        if turn < least || turn > most {
-            self.other = Some(OtherTurn {
-                place,
-                linger,
-                least,
-                most,
-            });
-            return Ok(());
-        }
-        if let Some(serial) = replay.server.old(module) {
-            self.tellings.push(Telling {
-                turn: linger.turn,
-                place,
-                serial,
-            })?;
-        }
-        Ok(())
+/// What an entry tells of this process.
+fn told_of(entry: &Entry, process: usize) -> Option<(AtomId, Linger)> {
+    let (module, linger) = told_by(entry)?;
+    if linger.process as usize == process {
+        return Some((module, linger));
+    }
+    None
+}
+
+/// Takes in that a process lingers in old code, if there is any.
+fn take_telling(
+    place: usize,
+    linger: Linger,
+    old: Option<u64>,
+    seen: &mut Sightings,
+) -> Result<(), NoMemory> {
+    match old {
+        Some(serial) => seen.tell(Telling {
+            turn: linger.turn,
+            place,
+            serial,
+        }),
+        None => Ok(()),
     }
 }
 
@@ -186,38 +168,55 @@ impl TurnCount {
             None => 0,
         }
     }
+
+    /// That the entry at a place tells another turn than the process was after under its generation.
+    fn other_turn(&self, generation: u64, place: usize, linger: Linger) -> Option<OtherTurn> {
+        let least = self.before(generation);
+        let most = self.before(generation.saturating_add(1));
+        let turn = u64::from(linger.turn);
+        if turn < least || turn > most {
+            return Some(OtherTurn {
+                place,
+                linger,
+                least,
+                most,
+            });
+        }
+        None
+    }
 }
 
-/// That the process was after another turn.
-fn other_turn(alloc: Global, other: OtherTurn) -> Result<Finding, NoMemory> {
-    let OtherTurn {
-        place,
-        linger,
-        least,
-        most,
-    } = other;
-    let at = Place::Entry(place);
-    let said = Finding::of(alloc, at, b"another answer: by then process ")?.say_number(u64::from(
-        linger.process,
-    ))?;
-    if least == most {
-        return said.say(b" was after its turn ")?.say_number(most);
+/// That the process was after another turn, if it was.
+fn told_otherwise(
+    other: Option<OtherTurn>,
+    expected: &mut Expected,
+) -> Result<Option<Finding>, NoMemory> {
+    let Some(other) = other else {
+        return Ok(None);
+    };
+    let number = u64::from(other.linger.process);
+    expected.say_number(b"another answer: by then process ", number)?;
+    if other.least == other.most {
+        expected.say_number(b" was after its turn ", other.most)?;
+    } else {
+        expected.say_number(b" was after one of its turns ", other.least)?;
+        expected.say_number(b" to ", other.most)?;
     }
-    said.say(b" was after one of its turns ")?
-        .say_number(least)?
-        .say(b" to ")?
-        .say_number(most)
+    Ok(Some(Finding::new(Place::Entry(other.place))))
 }
 
 /// That the process does not stand where the soft purge at a place tells it.
-fn stands_not(alloc: Global, log: &RunLog, place: usize) -> Result<Option<Finding>, NoMemory> {
+fn stands_not(
+    log: &RunLog,
+    place: usize,
+    expected: &mut Expected,
+) -> Result<Option<Finding>, NoMemory> {
     let Some((_, linger)) = log.journal.get(place).and_then(told_by) else {
         return Ok(None);
     };
-    let at = Place::Entry(place);
-    let said = Finding::of(alloc, at, b"another answer: process ")?
-        .say_number(u64::from(linger.process))?
-        .say(b" does not stand in that old code after turn ")?
-        .say_number(u64::from(linger.turn))?;
-    Ok(Some(said))
+    let number = u64::from(linger.process);
+    expected.say_number(b"another answer: process ", number)?;
+    let turn = u64::from(linger.turn);
+    expected.say_number(b" does not stand in that old code after turn ", turn)?;
+    Ok(Some(Finding::new(Place::Entry(place))))
 }

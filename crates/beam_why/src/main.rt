@@ -3,10 +3,12 @@
 
 mod complete;
 mod course;
+mod expected;
 mod finding;
 mod generations;
 mod halves;
 mod hints;
+mod inquiry;
 mod lines;
 mod lingering;
 mod order;

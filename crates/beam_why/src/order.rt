@@ -1,6 +1,7 @@
 // The first entry that is not the next command of its loader.
+use crate::expected::Expected;
 use crate::finding::Finding;
-use crate::shown::command_text;
+use crate::shown::quote_command;
 use legality::Place;
 use run_log::{Entry, RunLog, Who};
 use script_core::{LoaderList, MOST_LOADERS, Script, ScriptCmd};
@@ -13,15 +14,18 @@ pub fn expected_command(
     alloc: Global,
     script: &Script,
     log: &RunLog,
+    expected: &mut Expected,
 ) -> Result<Option<Finding>, NoMemory> {
     let mut places = [0usize; MOST_LOADERS];
-    match first_other(&script.loaders, log, &mut places) {
-        Some((place, loader)) => {
-            let finding = next_of(alloc, script, Place::Entry(place), loader, &places)?;
-            Ok(Some(finding))
-        }
-        None => expected_rest(alloc, script, &places),
-    }
+    let first = match first_other(&script.loaders, log, &mut places) {
+        Some((place, loader)) => Some((Place::Entry(place), loader)),
+        None => first_left(&script.loaders, &places),
+    };
+    let Some((at, loader)) = first else {
+        return Ok(None);
+    };
+    say_next(alloc, script, loader, place_of(&places, loader), expected)?;
+    Ok(Some(Finding::new(at)))
 }
 
 /// The first entry that is not the next command of its loader, by its place, and that loader.
@@ -34,18 +38,14 @@ fn first_other(loaders: &LoaderList, log: &RunLog, places: &mut [usize]) -> Opti
     None
 }
 
-/// What the first loader with commands left should have made behind the last entry.
-fn expected_rest(
-    alloc: Global,
-    script: &Script,
-    places: &[usize],
-) -> Result<Option<Finding>, NoMemory> {
-    for (loader, commands) in script.loaders.as_slice().iter().enumerate() {
+/// The first loader with commands left behind the last entry.
+fn first_left(loaders: &LoaderList, places: &[usize]) -> Option<(Place, usize)> {
+    for (loader, commands) in loaders.as_slice().iter().enumerate() {
         if place_of(places, loader) < commands.len() {
-            return Ok(Some(next_of(alloc, script, Place::End, loader, places)?));
+            return Some((Place::End, loader));
         }
     }
-    Ok(None)
+    None
 }
 
 /// How many commands of a loader were made.
@@ -56,27 +56,20 @@ fn place_of(places: &[usize], loader: usize) -> usize {
     }
 }
 
-/// The next command of a loader as what was expected, by its number from 1 on.
-fn next_of(
+/// Says the next command of a loader, by its number from 1 on.
+fn say_next(
     alloc: Global,
     script: &Script,
-    at: Place,
     loader: usize,
-    places: &[usize],
-) -> Result<Finding, NoMemory> {
-    let next = place_of(places, loader);
-    let finding = Finding::new(alloc, at);
+    next: usize,
+    expected: &mut Expected,
+) -> Result<(), NoMemory> {
     let Some(command) = command_at(&script.loaders, loader, next) else {
-        let said = finding.say(b"no further command of L")?;
-        return said.say_number(loader as u64);
+        return expected.say_number(b"no further command of L", loader as u64);
     };
-    let text = command_text(alloc, &script.names, command)?;
-    finding
-        .quote(text.as_slice())?
-        .say(b", command ")?
-        .say_number(next.saturating_add(1) as u64)?
-        .say(b" of L")?
-        .say_number(loader as u64)
+    quote_command(alloc, &script.names, command, expected)?;
+    expected.say_number(b", command ", next.saturating_add(1) as u64)?;
+    expected.say_number(b" of L", loader as u64)
 }
 
 /// The loader of an entry that is not its next command. One that is takes the loader on.

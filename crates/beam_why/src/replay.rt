@@ -1,16 +1,17 @@
 // The journal made again on a server, and what an entry should have answered.
 ghost use Rattle.std.specs.Prelude.{All, IfOk};
 ghost use Rattle.server_core.specs.CommandTable.{AreTexts, IsOfText};
-ghost use Rattle.server_core.specs.ServerState.{IsSound};
 ghost use Rattle.machine_core.specs.LaterStates.{HasAreas};
 
+use crate::expected::Expected;
 use crate::finding::Finding;
-use crate::shown::answer_text;
+use crate::inquiry::Inquiry;
+use crate::shown::say_answer;
 use legality::Place;
 use mod_core::ModuleList;
 use run_log::{Entry, EntryList, RunLog, Who};
 use script_core::Script;
-use server_core::{Applied, ApplyFault, Cmd, Server};
+use server_core::{ApplyFault, Cmd, Server};
 use std::alloc::Global;
 use term_core::NoMemory;
 
@@ -19,26 +20,28 @@ use term_core::NoMemory;
 pub struct Replay {
     pub server: Server,
     /// How many entries were made.
-    pub made: usize,
+    made: usize,
 }
 
 impl Replay {
     /// A server that has made nothing yet.
-    pub fn new(alloc: Global) -> Result<Replay, NoMemory>
-        ensures { IfOk result (λ replay. IsSound replay.server) }
-    {
+    pub fn new(alloc: Global) -> Result<Replay, NoMemory> {
         let server = Server::new(alloc)?;
-        let _ = server.generation();
         Ok(Replay { server, made: 0 })
+    }
+
+    /// Begins anew, with a server that has made nothing yet.
+    pub fn restart(&mut self, alloc: Global) -> Result<(), NoMemory> {
+        self.server = Server::new(alloc)?;
+        self.made = 0;
+        Ok(())
     }
 
     /// Makes the next entry, if there is one. Where its command can not be made there, the server stays.
     pub fn step(&mut self, journal: &EntryList, texts: &ModuleList) -> Result<(), NoMemory>
         requires texts { AreTexts texts.now }
         requires put { All (λ e. IsOfText e.cmd) journal.now }
-        requires sound { IsSound self.old.server }
-        ensures sound { IfOk result (λ _. IsSound self.new.server) }
-        ensures areas { IfOk result (λ _. HasAreas self.old.server self.new.server) }
+        ensures { IfOk result (λ _. HasAreas self.old.server self.new.server) }
     {
         let Some(entry) = journal.get(self.made) else {
             return Ok(());
@@ -47,25 +50,25 @@ impl Replay {
         make(&mut self.server, &entry.cmd, texts)
     }
 
-    /// Makes the entries before a place.
+    /// Makes the entries before a place, from the first on.
     pub fn make_before(
         &mut self,
+        alloc: Global,
         place: usize,
         journal: &EntryList,
         texts: &ModuleList,
     ) -> Result<(), NoMemory>
         requires texts { AreTexts texts.now }
         requires put { All (λ e. IsOfText e.cmd) journal.now }
-        requires sound { IsSound self.old.server }
-        ensures sound { IfOk result (λ _. IsSound self.new.server) }
     {
+        self.restart(alloc)?;
         for _ in 0..place {
             self.step(journal, texts)?;
         }
         Ok(())
     }
 
-    /// Makes entries until this generation is published.
+    /// Makes more entries until this generation is published.
     pub fn make_generation(
         &mut self,
         generation: u64,
@@ -74,9 +77,7 @@ impl Replay {
     ) -> Result<(), NoMemory>
         requires texts { AreTexts texts.now }
         requires put { All (λ e. IsOfText e.cmd) journal.now }
-        requires sound { IsSound self.old.server }
-        ensures sound { IfOk result (λ _. IsSound self.new.server) }
-        ensures areas { IfOk result (λ _. HasAreas self.old.server self.new.server) }
+        ensures { IfOk result (λ _. HasAreas self.old.server self.new.server) }
     {
         for _ in 0..journal.len() {
             if self.server.generation() >= generation {
@@ -86,29 +87,16 @@ impl Replay {
         }
         Ok(())
     }
-
-    /// What a command answers here, if it can be made.
-    fn answer(&mut self, cmd: &Cmd, texts: &ModuleList) -> Result<Option<Applied>, NoMemory>
-        requires texts { AreTexts texts.now }
-        requires put { IsOfText cmd.now }
-        requires sound { IsSound self.old.server }
-    {
-        match self.server.apply(cmd, texts) {
-            Ok(answer) => Ok(Some(answer)),
-            Err(ApplyFault::NotEnabled) => Ok(None),
-            Err(ApplyFault::NoMemory) => Err(NoMemory),
-        }
-    }
 }
 
 /// Makes a command, where it can be made.
 fn make(server: &mut Server, cmd: &Cmd, texts: &ModuleList) -> Result<(), NoMemory>
     requires texts { AreTexts texts.now }
     requires put { IsOfText cmd.now }
-    requires sound { IsSound server.old }
-    ensures sound { IfOk result (λ _. IsSound server.new) }
-    ensures areas { IfOk result (λ _. HasAreas server.old server.new) }
+    ensures { IfOk result (λ _. HasAreas server.old server.new) }
 {
+    // A server is sound, which is known once it is read.
+    let _generation = server.generation();
     match server.apply(cmd, texts) {
         Ok(_answer) => Ok(()),
         Err(ApplyFault::NotEnabled) => Ok(()),
@@ -122,49 +110,63 @@ pub fn expected_entry(
     script: &Script,
     log: &RunLog,
     place: usize,
+    inquiry: &mut Inquiry,
 ) -> Result<Finding, NoMemory>
     requires texts { AreTexts script.now.modules }
     requires put { All (λ e. IsOfText e.cmd) log.now.journal }
 {
-    let at = Place::Entry(place);
-    let Some(entry) = log.journal.get(place) else {
-        return Finding::of(alloc, at, b"another entry");
-    };
-    if let Some(words) = misplaced_words(entry) {
-        return Finding::of(alloc, at, words);
+    match log.journal.get(place) {
+        Some(entry) => say_entry(alloc, script, log, place, entry, inquiry)?,
+        None => inquiry.expected.say(b"another entry")?,
     }
-    match answer_at(alloc, script, log, place, &entry.cmd)? {
-        Some(answer) => expected_reply(alloc, script, place, answer),
-        None => Finding::of(alloc, at, impossible_words(&entry.cmd)),
-    }
+    Ok(Finding::new(Place::Entry(place)))
 }
 
-/// What a command answers in the place of an entry, if it can be made there.
-pub fn answer_at(
+/// Says what was expected in the place of this entry.
+fn say_entry(
+    alloc: Global,
+    script: &Script,
+    log: &RunLog,
+    place: usize,
+    entry: &Entry,
+    inquiry: &mut Inquiry,
+) -> Result<(), NoMemory>
+    requires texts { AreTexts script.now.modules }
+    requires put { All (λ e. IsOfText e.cmd) log.now.journal }
+    requires said { IsOfText entry.now.cmd }
+{
+    if let Some(words) = misplaced_words(entry) {
+        return inquiry.expected.say(words);
+    }
+    if say_answer_at(alloc, script, log, place, &entry.cmd, inquiry)? {
+        return Ok(());
+    }
+    inquiry.expected.say(impossible_words(&entry.cmd))
+}
+
+/// Says what a command answers in the place of an entry, if it can be made there. Answers whether it can.
+pub fn say_answer_at(
     alloc: Global,
     script: &Script,
     log: &RunLog,
     place: usize,
     cmd: &Cmd,
-) -> Result<Option<Applied>, NoMemory>
+    inquiry: &mut Inquiry,
+) -> Result<bool, NoMemory>
     requires texts { AreTexts script.now.modules }
     requires put { All (λ e. IsOfText e.cmd) log.now.journal }
     requires said { IsOfText cmd.now }
 {
-    let mut replay = Replay::new(alloc)?;
-    replay.make_before(place, &log.journal, &script.modules)?;
-    replay.answer(cmd, &script.modules)
-}
-
-/// That this answer was expected of an entry.
-pub fn expected_reply(
-    alloc: Global,
-    script: &Script,
-    place: usize,
-    answer: Applied,
-) -> Result<Finding, NoMemory> {
-    let text = answer_text(alloc, &script.names, answer)?;
-    Finding::of(alloc, Place::Entry(place), b"the answer ")?.quote(text.as_slice())
+    let replay = &mut inquiry.replay;
+    replay.make_before(alloc, place, &log.journal, &script.modules)?;
+    match replay.server.apply(cmd, &script.modules) {
+        Ok(answer) => {
+            say_answer(alloc, &script.names, answer, &mut inquiry.expected)?;
+            Ok(true)
+        }
+        Err(ApplyFault::NotEnabled) => Ok(false),
+        Err(ApplyFault::NoMemory) => Err(NoMemory),
+    }
 }
 
 /// Who should have made an entry, where it is not he who did.
@@ -198,22 +200,29 @@ fn impossible_words(cmd: &Cmd) -> &'static [u8] {
 }
 
 /// What was expected behind the last entry, where an area waits to be released.
-pub fn expected_release(alloc: Global, script: &Script, log: &RunLog) -> Result<Finding, NoMemory>
+pub fn expected_release(
+    alloc: Global,
+    script: &Script,
+    log: &RunLog,
+    inquiry: &mut Inquiry,
+) -> Result<Finding, NoMemory>
     requires texts { AreTexts script.now.modules }
     requires put { All (λ e. IsOfText e.cmd) log.now.journal }
 {
-    let mut replay = Replay::new(alloc)?;
-    replay.make_before(log.journal.len(), &log.journal, &script.modules)?;
-    let found = Finding::of(
-        alloc,
-        Place::End,
-        b"a release of each area that was retired",
-    )?;
-    match replay.server.oldest_retired() {
-        Some(serial) => found
-            .say(b", as `entry rt release ")?
-            .say_number(serial)?
-            .say(b" = ok -`"),
-        None => Ok(found),
+    let replay = &mut inquiry.replay;
+    replay.make_before(alloc, log.journal.len(), &log.journal, &script.modules)?;
+    say_release(replay.server.oldest_retired(), &mut inquiry.expected)?;
+    Ok(Finding::new(Place::End))
+}
+
+/// Says that the areas that wait were to be released, as the oldest of them.
+fn say_release(oldest: Option<u64>, expected: &mut Expected) -> Result<(), NoMemory> {
+    expected.say(b"a release of each area that was retired")?;
+    match oldest {
+        Some(serial) => {
+            expected.say_number(b", as `entry rt release ", serial)?;
+            expected.say(b" = ok -`")
+        }
+        None => Ok(()),
     }
 }

@@ -1,9 +1,7 @@
-// Values as a report shows them: each is put into a small log, whose report has its line.
+// Values as a report shows them: each is put into a small log, and the line of its report is quoted.
+use crate::expected::Expected;
 use machine_core::{End, LineList};
-use run_log::{
-    Entry, EntryList, ObserverList, ProcessLog, ProcessLogList, RunLog, Snapshot, SnapshotList,
-    Span, SpanList, Who, render,
-};
+use run_log::{Entry, ProcessLog, Snapshot, SnapshotList, Span, SpanList, Who, render};
 use script_core::ScriptCmd;
 use server_core::{Applied, Cmd, RefList, Reply};
 use std::alloc::Global;
@@ -15,6 +13,9 @@ const FIRST_ENTRY: usize = 3;
 /// The line of the first thing behind the head of a first span or of a first snapshot.
 const FIRST_LINE: usize = 5;
 
+/// What stands before the answer to a release by the runtime of the area with serial 0.
+const ANSWER_FRONT: &[u8] = b"entry rt release 0 = ";
+
 /// What stands before and behind a command that the runtime made with the answer `ok`.
 const ENTRY_FRONT: &[u8] = b"entry rt ";
 
@@ -23,37 +24,38 @@ const ENTRY_BACK: &[u8] = b" = ok -";
 /// What stands before the call of the first process.
 const PROCESS_FRONT: &[u8] = b"process 0 ";
 
-/// The reply and the generation of an answer, as they stand behind `= ` in an entry.
-pub fn answer_text(alloc: Global, names: &Names, answer: Applied) -> Result<ByteList, NoMemory> {
-    let mut log = empty_log(alloc);
-    log.journal.push(Entry {
+/// Says an answer: the reply and the generation, as they stand behind `= ` in an entry.
+pub fn say_answer(
+    alloc: Global,
+    names: &Names,
+    answer: Applied,
+    expected: &mut Expected,
+) -> Result<(), NoMemory> {
+    expected.page.journal.push(Entry {
         who: Who::Runtime,
         cmd: Cmd::Release(0),
         reply: answer.reply,
         published: answer.published,
     })?;
-    let line = report_line(alloc, names, &log, FIRST_ENTRY)?;
-    match cut_at(line.as_slice(), b'=') {
-        Some((_, behind)) => ByteList::from_slice(alloc, behind.get(1..).unwrap_or(behind)),
-        None => Ok(line),
-    }
+    expected.say(b"the answer ")?;
+    quote(alloc, names, FIRST_ENTRY, ANSWER_FRONT, b"", expected)
 }
 
-/// A command, as its line in a script.
-pub fn command_text(
+/// Quotes a command, as its line in a script.
+pub fn quote_command(
     alloc: Global,
     names: &Names,
     command: &ScriptCmd,
-) -> Result<ByteList, NoMemory> {
-    let mut log = empty_log(alloc);
-    log.journal.push(Entry {
+    expected: &mut Expected,
+) -> Result<(), NoMemory> {
+    let cmd = cmd_of(alloc, command)?;
+    expected.page.journal.push(Entry {
         who: Who::Runtime,
-        cmd: cmd_of(alloc, command)?,
+        cmd,
         reply: Reply::Ok,
         published: None,
     })?;
-    let line = report_line(alloc, names, &log, FIRST_ENTRY)?;
-    between(alloc, line.as_slice(), ENTRY_FRONT, ENTRY_BACK)
+    quote(alloc, names, FIRST_ENTRY, ENTRY_FRONT, ENTRY_BACK, expected)
 }
 
 /// The command of the server that ends a command of a script.
@@ -86,55 +88,68 @@ fn cmd_of(alloc: Global, command: &ScriptCmd) -> Result<Cmd, NoMemory> {
     })
 }
 
-/// A function with the arguments that a process enters it with, as in the line of a process.
-pub fn call_text(
+/// Quotes a function with the arguments that a process enters it with, as in the line of a process.
+pub fn quote_call(
     alloc: Global,
     names: &Names,
     target: Mfa,
     args: &TermList,
-) -> Result<ByteList, NoMemory> {
-    let mut log = empty_log(alloc);
-    log.processes.push(ProcessLog {
+    expected: &mut Expected,
+) -> Result<(), NoMemory> {
+    let args = args.copy(alloc)?;
+    expected.page.processes.push(ProcessLog {
         target,
-        args: args.copy(alloc)?,
+        args,
         spans: SpanList::new(alloc),
         fin: End::Normal,
     })?;
-    let line = report_line(alloc, names, &log, FIRST_ENTRY)?;
-    between(alloc, line.as_slice(), PROCESS_FRONT, b"")
+    quote(alloc, names, FIRST_ENTRY, PROCESS_FRONT, b"", expected)
 }
 
-/// The line of a process at this place of these, counted from 0.
-pub fn line_text(
+/// Quotes the line of a process at this place of these, counted from 0.
+pub fn quote_line(
     alloc: Global,
     names: &Names,
     lines: LineList,
     place: usize,
-) -> Result<ByteList, NoMemory> {
-    behind_head(alloc, names, lines, place, End::Normal)
+    expected: &mut Expected,
+) -> Result<(), NoMemory> {
+    let spans = one_span(alloc, lines)?;
+    quote_process(alloc, names, spans, End::Normal, place, expected)
 }
 
-/// The line of the end of a process.
-pub fn end_text(alloc: Global, names: &Names, end: End) -> Result<ByteList, NoMemory> {
-    behind_head(alloc, names, LineList::new(alloc), 0, end)
-}
-
-/// The line at a place behind the head of a span with these lines, which is the last one of a process.
-fn behind_head(
+/// Quotes the line of the end of a process.
+pub fn quote_end(
     alloc: Global,
     names: &Names,
-    lines: LineList,
-    place: usize,
-    fin: End,
-) -> Result<ByteList, NoMemory> {
+    end: End,
+    expected: &mut Expected,
+) -> Result<(), NoMemory> {
+    let spans = one_span(alloc, LineList::new(alloc))?;
+    quote_process(alloc, names, spans, end, 0, expected)
+}
+
+/// A span with these lines.
+fn one_span(alloc: Global, lines: LineList) -> Result<SpanList, NoMemory> {
     let mut spans = SpanList::new(alloc);
     spans.push(Span {
         generation: 1,
         turns: 1,
         lines,
     })?;
-    let mut log = empty_log(alloc);
-    log.processes.push(ProcessLog {
+    Ok(spans)
+}
+
+/// Quotes the line at a place behind the head of the first span of a process.
+fn quote_process(
+    alloc: Global,
+    names: &Names,
+    spans: SpanList,
+    fin: End,
+    place: usize,
+    expected: &mut Expected,
+) -> Result<(), NoMemory> {
+    expected.page.processes.push(ProcessLog {
         target: Mfa {
             module: AtomId::OK,
             name: AtomId::OK,
@@ -144,56 +159,54 @@ fn behind_head(
         spans,
         fin,
     })?;
-    report_line(alloc, names, &log, FIRST_LINE.saturating_add(place))
+    let line = FIRST_LINE.saturating_add(place);
+    quote(alloc, names, line, b"", b"", expected)
 }
 
-/// The line of an export of a snapshot, by its place, counted from 0.
-pub fn export_text(
+/// Quotes the line of an export of a snapshot, by its place, counted from 0.
+pub fn quote_export(
     alloc: Global,
     names: &Names,
     shot: Snapshot,
     place: usize,
-) -> Result<ByteList, NoMemory> {
+    expected: &mut Expected,
+) -> Result<(), NoMemory> {
     let mut shots = SnapshotList::new(alloc);
     shots.push(shot)?;
-    let mut log = empty_log(alloc);
-    log.observers.push(shots)?;
-    report_line(alloc, names, &log, FIRST_LINE.saturating_add(place))
+    expected.page.observers.push(shots)?;
+    let line = FIRST_LINE.saturating_add(place);
+    quote(alloc, names, line, b"", b"", expected)
 }
 
-/// What stands in a line between such a front and such a back.
-fn between(alloc: Global, line: &[u8], front: &[u8], back: &[u8]) -> Result<ByteList, NoMemory> {
-    let end = line.len().saturating_sub(back.len());
-    let text = line.get(front.len()..end).unwrap_or(line);
-    ByteList::from_slice(alloc, text)
-}
-
-fn empty_log(alloc: Global) -> RunLog {
-    RunLog {
-        journal: EntryList::new(alloc),
-        processes: ProcessLogList::new(alloc),
-        observers: ObserverList::new(alloc),
-    }
-}
-
-/// The line with this number of the report of a log, counted from 1 and without its line feed. Nothing where it has fewer lines.
-fn report_line(
+/// Quotes what stands in a line of the small log's report, counted from 1, between such a front and such a back.
+fn quote(
     alloc: Global,
     names: &Names,
-    log: &RunLog,
     number: usize,
-) -> Result<ByteList, NoMemory> {
-    let mut text = ByteList::new(alloc);
-    render(names, log, &mut text)?;
-    let mut rest = text.as_slice();
+    front: &[u8],
+    back: &[u8],
+    expected: &mut Expected,
+) -> Result<(), NoMemory> {
+    let mut report = ByteList::new(alloc);
+    render(names, &expected.page, &mut report)?;
+    let line = line_at(report.as_slice(), number);
+    let end = line.len().saturating_sub(back.len());
+    expected.say(b"`")?;
+    expected.say(line.get(front.len()..end).unwrap_or(line))?;
+    expected.say(b"`")
+}
+
+/// The line of a text with this number, counted from 1 and without its line feed. Nothing where it has fewer lines.
+fn line_at(text: &[u8], number: usize) -> &[u8] {
+    let mut rest = text;
     for _ in 1..number {
         match cut_at(rest, b'\n') {
             Some((_, behind)) => rest = behind,
-            None => return Ok(ByteList::new(alloc)),
+            None => return b"".as_slice(),
         }
     }
     match cut_at(rest, b'\n') {
-        Some((line, _)) => ByteList::from_slice(alloc, line),
-        None => Ok(ByteList::new(alloc)),
+        Some((line, _)) => line,
+        None => b"".as_slice(),
     }
 }

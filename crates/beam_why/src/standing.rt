@@ -2,9 +2,12 @@
 ghost use Rattle.std.specs.Prelude.{All};
 ghost use Rattle.server_core.specs.CommandTable.{AreTexts, IsOfText};
 
-use crate::course::process_at;
+use crate::course::go_along;
+use crate::expected::Expected;
 use crate::finding::Finding;
-use crate::replay::{Replay, answer_at, expected_reply};
+use crate::inquiry::Inquiry;
+use crate::replay::say_answer_at;
+use crate::sightings::Asked;
 use legality::Place;
 use machine_core::{End, Frame, Process, Value};
 use run_log::RunLog;
@@ -19,6 +22,7 @@ pub fn expected_unnamed(
     script: &Script,
     log: &RunLog,
     place: usize,
+    inquiry: &mut Inquiry,
 ) -> Result<Option<Finding>, NoMemory>
     requires texts { AreTexts script.now.modules }
     requires put { All (λ e. IsOfText e.cmd) log.now.journal }
@@ -26,79 +30,74 @@ pub fn expected_unnamed(
     let Some(entry) = log.journal.get(place) else {
         return Ok(None);
     };
-    let Some((serial, generation)) = given_up(alloc, script, log, place, &entry.cmd)? else {
-        return Ok(None);
-    };
-    if let Some(number) = first_naming(alloc, script, log, generation, &entry.cmd, serial)? {
-        return Ok(Some(still_there(alloc, place, number, &entry.cmd)?));
+    let generation = give_up(alloc, script, log, place, &entry.cmd, inquiry)?;
+    if let Some(number) = first_naming(alloc, script, log, generation, inquiry)? {
+        say_still_there(number, &entry.cmd, &mut inquiry.expected)?;
+        return Ok(Some(Finding::new(Place::Entry(place))));
     }
-    match &entry.cmd {
-        Cmd::Purge { module, .. } => expected_kill(alloc, script, log, place, *module, serial),
+    match (&entry.cmd, inquiry.seen.asked) {
+        (Cmd::Purge { module, .. }, Asked::Stands(serial)) => {
+            expected_kill(alloc, script, log, place, *module, serial, inquiry)
+        }
         _ => Ok(None),
     }
 }
 
-/// The area that a command gives up in the place of an entry, and the newest generation then.
-fn given_up(
+/// Asks of processes what a command gives up in the place of an entry. Answers the newest generation then.
+fn give_up(
     alloc: Global,
     script: &Script,
     log: &RunLog,
     place: usize,
     cmd: &Cmd,
-) -> Result<Option<(u64, u64)>, NoMemory>
+    inquiry: &mut Inquiry,
+) -> Result<u64, NoMemory>
     requires texts { AreTexts script.now.modules }
     requires put { All (λ e. IsOfText e.cmd) log.now.journal }
 {
-    let mut replay = Replay::new(alloc)?;
-    replay.make_before(place, &log.journal, &script.modules)?;
-    let generation = replay.server.generation();
-    match area_of(&replay.server, cmd) {
-        Some(serial) => Ok(Some((serial, generation))),
-        None => Ok(None),
-    }
+    let replay = &mut inquiry.replay;
+    replay.make_before(alloc, place, &log.journal, &script.modules)?;
+    inquiry.seen.asked = asked_by(&replay.server, cmd);
+    Ok(replay.server.generation())
 }
 
-/// The area that a command gives up: the old code that it drops, or what it releases.
-fn area_of(server: &Server, cmd: &Cmd) -> Option<u64> {
+/// What is asked of a process for a command: of old code that it drops, or of what it releases.
+fn asked_by(server: &Server, cmd: &Cmd) -> Asked {
     match cmd {
         Cmd::SoftPurge {
             module,
             lingers: None,
-        } => server.old(*module),
-        Cmd::Purge { module, .. } => server.old(*module),
-        Cmd::Release(serial) => Some(*serial),
-        _ => None,
+        }
+        | Cmd::Purge { module, .. } => match server.old(*module) {
+            Some(serial) => Asked::Stands(serial),
+            None => Asked::Nothing,
+        },
+        Cmd::Release(serial) => Asked::Names(*serial),
+        _ => Asked::Nothing,
     }
 }
 
-/// The first process that, after its turns up to a generation, still has what the command gives up.
+/// The first process of which it is so what is asked, after its turns up to a generation.
 fn first_naming(
     alloc: Global,
     script: &Script,
     log: &RunLog,
     generation: u64,
-    cmd: &Cmd,
-    serial: u64,
+    inquiry: &mut Inquiry,
 ) -> Result<Option<usize>, NoMemory>
     requires texts { AreTexts script.now.modules }
     requires put { All (λ e. IsOfText e.cmd) log.now.journal }
 {
+    if let Asked::Nothing = inquiry.seen.asked {
+        return Ok(None);
+    }
     for number in 0..log.processes.len() {
-        if let Some(process) = process_at(alloc, script, log, number, generation)? {
-            if has_still(&process, cmd, serial) {
-                return Ok(Some(number));
-            }
+        go_along(alloc, script, log, number, generation, inquiry)?;
+        if inquiry.seen.is_so {
+            return Ok(Some(number));
         }
     }
     Ok(None)
-}
-
-/// Whether a process stands in the code, or for a release names the area in any way.
-fn has_still(process: &Process, cmd: &Cmd, serial: u64) -> bool {
-    match cmd {
-        Cmd::Release(_) => names(process, serial),
-        _ => stands_in(process, serial),
-    }
 }
 
 /// Whether a frame of the process runs the instance.
@@ -112,7 +111,7 @@ pub fn stands_in(process: &Process, serial: u64) -> bool {
 }
 
 /// Whether a frame of the process runs the instance, or has a literal of the area.
-fn names(process: &Process, serial: u64) -> bool {
+pub fn names(process: &Process, serial: u64) -> bool {
     for frame in process.frames.as_slice() {
         if frame.code.area.serial == serial || quotes(frame, serial) {
             return true;
@@ -133,17 +132,16 @@ fn quotes(frame: &Frame, serial: u64) -> bool {
     false
 }
 
-/// That this process was not expected there.
-fn still_there(alloc: Global, place: usize, number: usize, cmd: &Cmd) -> Result<Finding, NoMemory> {
+/// Says that this process was not expected there.
+fn say_still_there(number: usize, cmd: &Cmd, expected: &mut Expected) -> Result<(), NoMemory> {
     let wanted = match cmd {
         Cmd::Release(_) => {
             b"that no process names the area where it is released: process ".as_slice()
         }
         _ => b"that no process stands in the code that is dropped: process ".as_slice(),
     };
-    Finding::of(alloc, Place::Entry(place), wanted)?
-        .say_number(number as u64)?
-        .say(b" does")
+    expected.say_number(wanted, number as u64)?;
+    expected.say(b" does")
 }
 
 /// The answer that a purge has by the ends of the processes.
@@ -154,6 +152,7 @@ fn expected_kill(
     place: usize,
     module: AtomId,
     serial: u64,
+    inquiry: &mut Inquiry,
 ) -> Result<Option<Finding>, NoMemory>
     requires texts { AreTexts script.now.modules }
     requires put { All (λ e. IsOfText e.cmd) log.now.journal }
@@ -163,13 +162,11 @@ fn expected_kill(
         module,
         killed: killed.is_some(),
     };
-    match answer_at(alloc, script, log, place, &cmd)? {
-        Some(answer) => {
-            let said = expected_reply(alloc, script, place, answer)?;
-            Ok(Some(say_killed(killed, serial, said)?))
-        }
-        None => Ok(None),
+    if say_answer_at(alloc, script, log, place, &cmd, inquiry)? {
+        say_killed(killed, serial, &mut inquiry.expected)?;
+        return Ok(Some(Finding::new(Place::Entry(place))));
     }
+    Ok(None)
 }
 
 /// The first process that ended since it stood in this instance.
@@ -183,13 +180,14 @@ fn first_killed(log: &RunLog, serial: u64) -> Option<usize> {
 }
 
 /// Says which process was killed by an instance, or that none was.
-fn say_killed(killed: Option<usize>, serial: u64, finding: Finding) -> Result<Finding, NoMemory> {
-    let said = match killed {
-        Some(number) => finding
-            .say(b", since process ")?
-            .say_number(number as u64)?
-            .say(b" ends as `killed ")?,
-        None => finding.say(b", since no process ends as `killed ")?,
-    };
-    said.say_number(serial)?.say(b"`")
+fn say_killed(killed: Option<usize>, serial: u64, expected: &mut Expected) -> Result<(), NoMemory> {
+    match killed {
+        Some(number) => {
+            expected.say_number(b", since process ", number as u64)?;
+            expected.say(b" ends as `killed ")?;
+        }
+        None => expected.say(b", since no process ends as `killed ")?,
+    }
+    expected.say_number(b"", serial)?;
+    expected.say(b"`")
 }

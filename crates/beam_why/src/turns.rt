@@ -13,10 +13,10 @@ use term_core::NoMemory;
 const MOST_TURNS_AGAIN: u64 = 10_000;
 
 /// Why the way along a log stops within a span. Places count the span's lines from 0.
-#[derive(Drop)]
+#[derive(Clone, Copy)]
 pub enum Stop {
     /// At this place the process shows another line: of the lines of its turn the one with this number, counted from 0.
-    Other(usize, LineList, usize),
+    Other(usize, usize),
     /// The last of the turns ends the process so, and at this place something else is told.
     Ending(usize, End),
     /// The process ends so after so many of the turns already.
@@ -25,7 +25,7 @@ pub enum Stop {
     Nothing(usize),
     /// The process ends, as the log tells.
     Told,
-    /// The span has too many turns to make them again.
+    /// It is not known how the process goes on, as the span has too many turns to make them again.
     Unknown,
 }
 
@@ -42,43 +42,37 @@ pub fn take_span(
     requires { MayGoOn server.now process.old }
     ensures { IfOk result (λ stop. stop ≡ None → MayGoOn server.now process.new) }
 {
-    let mut shown = 0usize;
-    for past in 0..span.turns.min(MOST_TURNS_AGAIN) {
+    seen.begin_span();
+    for _ in 0..span.turns.min(MOST_TURNS_AGAIN) {
         seen.look(process);
-        if let Some(stop) = take_next(alloc, server, span, fin, past, &mut shown, process)? {
+        if let Some(stop) = take_next(alloc, server, span, fin, seen, process)? {
             return Ok(Some(stop));
         }
     }
-    Ok(left_over(span, shown))
+    Ok(left_over(span, seen.lines))
 }
 
-/// Makes the next turn of a span again, behind so many turns and lines of it.
+/// Makes the next turn of a span again.
 fn take_next(
     alloc: Global,
     server: &Server,
     span: &Span,
     fin: Option<End>,
-    past: u64,
-    shown: &mut usize,
+    seen: &mut Sightings,
     process: &mut Process,
 ) -> Result<Option<Stop>, NoMemory>
     requires { MayGoOn server.now process.old }
     ensures { IfOk result (λ stop. stop ≡ None → MayGoOn server.now process.new) }
 {
-    let mut made = LineList::new(alloc);
-    let end = take_turn(alloc, server, process, &mut made)?;
-    let before = *shown;
-    *shown = before.saturating_add(made.len());
-    if let Some(number) = first_other(span, before, &made) {
-        let at = before.saturating_add(number);
-        return Ok(Some(Stop::Other(at, made, number)));
+    seen.made.truncate(0);
+    let end = take_turn(alloc, server, process, &mut seen.made)?;
+    let before = seen.take_turn();
+    if let Some(number) = first_other(span, before, &seen.made) {
+        return Ok(Some(Stop::Other(before.saturating_add(number), number)));
     }
     match end {
         TurnEnd::Again => Ok(None),
-        TurnEnd::Ended(ended) => {
-            let had = past.saturating_add(1);
-            Ok(Some(ended_at(span, had, *shown, ended, fin)))
-        }
+        TurnEnd::Ended(ended) => Ok(Some(ended_at(span, seen, ended, fin))),
     }
 }
 
@@ -108,15 +102,15 @@ fn first_other(span: &Span, shown: usize, made: &LineList) -> Option<usize> {
     None
 }
 
-/// Why the way stops where a process ended with so many turns and lines of a span: it is told so, or what was expected.
-fn ended_at(span: &Span, had: u64, shown: usize, ended: End, fin: Option<End>) -> Stop {
-    if had < span.turns {
-        return Stop::Early(had, ended);
+/// Why the way stops where a process ended behind some turns and lines of a span: it is told so, or what was expected.
+fn ended_at(span: &Span, seen: &Sightings, ended: End, fin: Option<End>) -> Stop {
+    if seen.turns < span.turns {
+        return Stop::Early(seen.turns, ended);
     }
-    if shown == span.lines.len() && fin == Some(ended) {
+    if seen.lines == span.lines.len() && fin == Some(ended) {
         return Stop::Told;
     }
-    Stop::Ending(shown, ended)
+    Stop::Ending(seen.lines, ended)
 }
 
 /// Why the way stops behind so many lines of a span after which the process goes on, if it does.

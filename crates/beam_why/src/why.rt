@@ -4,8 +4,7 @@ ghost use Rattle.script_core.specs.Sound.{IsScript};
 ghost use Rattle.outside.specs.Outside.{Rose};
 ghost use Rattle.beam_why.specs.Why.{Delivered, IsBrokenAnswer, LogVerdict, ReadVerdict, WhyEnds, WhyVerdict};
 
-use crate::hints::find;
-use crate::places::write_place;
+use crate::hints::write_hint;
 use crate::words::name_of;
 use legality::{Breach, first_breach};
 use outside::{
@@ -89,7 +88,8 @@ fn broken_answer(
     requires put { All (λ e. IsOfText e.cmd) log.now.journal }
     ensures { IfOk result (IsBrokenAnswer breach.clause) }
 {
-    let rest = rest_of(alloc, script, log, breach)?;
+    let mut rest = ByteList::new(alloc);
+    write_hint(alloc, script, log, breach, &mut rest)?;
     let mut text = ByteList::from_slice(alloc, b"not lawful: ")?;
     text.extend_from_slice(name_of(breach.clause))?;
     text.extend_from_slice(rest.as_slice())?;
@@ -98,23 +98,4 @@ fn broken_answer(
         log: None,
         text,
     })
-}
-
-/// What stands behind the name of a clause: where it was found broken, and what was expected there.
-fn rest_of(
-    alloc: Global,
-    script: &Script,
-    log: &RunLog,
-    breach: Breach,
-) -> Result<ByteList, NoMemory>
-    requires script { IsScript script.now }
-    requires put { All (λ e. IsOfText e.cmd) log.now.journal }
-{
-    let finding = find(alloc, script, log, breach)?;
-    let mut rest = ByteList::new(alloc);
-    write_place(log, finding.at, finding.line, &mut rest)?;
-    rest.extend_from_slice(b"\nexpected ")?;
-    rest.extend_from_slice(finding.expected.as_slice())?;
-    rest.push(b'\n')?;
-    Ok(rest)
 }

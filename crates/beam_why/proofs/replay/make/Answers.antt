@@ -2,5 +2,5 @@
 use Rattle.beam_why.proofs.Replays.{areas_made}
 use Rattle.beam_why.proofs.replay.make.Goals as goal
 
-pub returns-in-Ok-clause-areas : goal.returns-in-Ok-clause-areas
-returns-in-Ok-clause-areas c = areas_made c.args.texts.now c.args.server.now c.apply.new.self c.args.cmd.now c.in-Ok._answer c.requires.sound c.in-Ok.ensures.ok
+pub returns-in-Ok : goal.returns-in-Ok
+returns-in-Ok c = areas_made c.args.texts.now c.args.server.now c.apply.new.self c.args.cmd.now c.in-Ok._answer c.generation-generation.ensures.sound c.in-Ok.ensures.ok

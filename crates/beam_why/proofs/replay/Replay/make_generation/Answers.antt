@@ -4,7 +4,7 @@ use Rattle.beam_why.proofs.Replays.{areas_more, areas_same}
 use Rattle.beam_why.proofs.replay.Replay.make_generation.Goals as goal
 
 pub loop-init : goal.loop-init
-loop-init c = record { sound = c.requires.sound; areas = areas_same _ _ refl }
+loop-init c = areas_same _ _ refl
 
 pub loop-preserved : goal.loop-preserved
-loop-preserved c = record { sound = c.in_ok-step.ensures.sound; areas = areas_more _ _ _ c.loop.invariant.areas c.in_ok-step.ensures.areas }
+loop-preserved c = areas_more _ _ _ c.loop.invariant c.in_ok-step.ensures
