@@ -1,0 +1,5 @@
+pub mod Hits
+pub mod Joins
+pub mod Steps
+pub mod Sums
+pub mod Totals
