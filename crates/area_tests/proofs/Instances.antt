@@ -12,14 +12,22 @@ use Rattle.area_core.specs.declared.table.KeptArea.{KeptArea}
 use Rattle.area_core.specs.Generations.{has_serial, is_kept_as, tells}
 use Rattle.area_core.specs.Map.{word_at, block_place, retire_place, doom_place}
 use Rattle.area_core.specs.Blocks.{Among, AreaStands, FitsBlock, IsForInstances, KeptApart, InstancesPlaced, CodeStands, BreakpointsStand, UsedAreKept, term_blocks_words}
-use Rattle.area_core.specs.Terms.{TermsStand}
+use Rattle.area_core.specs.Terms.{TermsStand, found_in}
 use Rattle.area_core.specs.Roots.{fresh_areas, serial_image}
 use Rattle.area_core.specs.Step.{opening_published}
+use Rattle.area_core.proofs.Frames.{found_same}
+use Rattle.area_core.proofs.Opened.{blocks_opened}
 use Rattle.shared_words.specs.declared.view.WriterView.{WriterView}
 use Rattle.shared_words.specs.Rule.{HasArea}
 use Rattle.shared_words.specs.Publishing.{MayPublish, kept_next}
+use Rattle.new_tables.proofs.Emptied.{no_element, never}
 use Rattle.area_tests.specs.Many.{many_serials, ref_one, many_refs, images, kept_one, kepts, published_of}
-use Rattle.area_tests.proofs.Publishing.{no_element, never, none_found}
+
+-- a term table without words has no key
+pub none_found : (block : ℕ → ℕ) → ((at : ℕ) → at < 1024 → block at ≡ 0) → (key word : ℕ) → found_in block key ≡ Some word → ⊥
+none_found block empty key word found =
+    let opened = blocks_opened (λ place. 0) (λ place. refl) (λ g. Unit {0}) in
+    never ((opened.terms_stand 0 opening_published tt refl).only key word (sym (found_same (λ at. 0) block empty key) ∙ found))
 
 -- ---- the instances
 

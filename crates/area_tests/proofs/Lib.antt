@@ -1,5 +1,4 @@
 mod Begun
-mod Publishing
 mod Serials
 mod Instances
 mod Many
@@ -11,9 +10,8 @@ mod Naming
 mod Gone
 mod Turned
 mod Playing
-mod Heading
 mod Members
 mod Noted
 mod Silent
 mod Looked
-mod Ended
+mod Keyed

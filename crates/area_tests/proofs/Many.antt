@@ -11,22 +11,21 @@ use Rattle.area_core.specs.Generations.{has_serial, is_current, tells}
 use Rattle.area_core.specs.Map.{word_at, doom_place}
 use Rattle.area_core.proofs.Places.{kind_doom, word_here, word_there}
 use Rattle.shared_words.specs.declared.opening.Opening.{Opening}
+use Rattle.shared_words.specs.declared.seats.Member as tokens
 use Rattle.shared_words.specs.declared.seats.Writer as writers
 use Rattle.shared_words.specs.declared.view.NoteNumber.{NoteNumber}
-use Rattle.shared_words.specs.declared.view.MemberView.{MemberView}
 use Rattle.shared_words.specs.declared.view.WriterView.{WriterView}
 use Rattle.shared_words.specs.declared.view.View.TheVariants.{Writer}
 use Rattle.shared_words.specs.Seats.{writer_of}
-use Rattle.shared_words.specs.Making.{IsHanding, writer_handing}
+use Rattle.shared_words.specs.Making.{IsHanding}
 use Rattle.shared_words.specs.Notes.{MaySplitNote}
 use Rattle.shared_words.specs.Views.{published_at}
 use Rattle.shared_words.specs.Publishing.{MayPublish, MayStoreWord, FitsWord, IsRootOf, with_next, with_word}
-use Rattle.progress_words.specs.Tokens.{written_by, IsWriterOf}
+use Rattle.progress_words.specs.Tokens.{view_of, written_by, IsWriterOf}
+use Rattle.new_tables.proofs.Blank.{handing_blank}
+use Rattle.new_tables.proofs.Emptied.{handing_first, no_element}
 use Rattle.area_tests.specs.Many.{many_serials, many_published, IsPrepared}
-use Rattle.area_tests.specs.Work.{IsUnder}
-use Rattle.area_tests.specs.First.{IsBegun}
-use Rattle.area_tests.proofs.Begun.{begun_empty, begun_newest, long_begun}
-use Rattle.area_tests.proofs.Publishing.{no_element}
+use Rattle.area_tests.specs.Work.{IsPlaying, IsUnder, IsWorking, turns_done}
 use Rattle.area_tests.proofs.Instances.{serial_there, may_publish_current}
 
 -- ---- what is published
@@ -62,14 +61,12 @@ may_doom w none = subst (FitsWord w 1) (sym (kind_doom 24 (omega (arith)))) (λ 
 
 pub prepared : (table : TableId) (opening : Opening) (handed : ℕ) (old new : writers.Writer) → IsHanding table opening handed old.seat → new.seat.me.0 ≡ Writer (with_word 1453 1 (written_by old)) → IsPrepared (written_by new)
 prepared table opening handed old new is view =
-    let now : written_by new ≡ with_word 1453 1 (written_by old) = ap writer_of view in
-    let begun : IsBegun (written_by old) = begun_empty table opening handed old is in
-    let first : written_by old ≡ writer_handing opening handed = ap writer_of is.view in
-    subst IsPrepared (sym now) (record {
-      published = ap (λ (w : WriterView). w.published) first;
-      kept = begun.kept;
-      doom = word_here (written_by old).words 1453 1 (let long = long_begun table opening handed old is in omega (arith, long));
-      others = λ place differ. word_there (written_by old).words 1453 1 place differ ∙ begun.words place;
+    let blank = handing_blank table opening handed old is in
+    subst IsPrepared (sym (ap writer_of view)) (record {
+      published = blank.published;
+      kept = blank.kept;
+      doom = word_here (written_by old).words 1453 1 (let long = blank.all in omega (arith, long));
+      others = λ place differ. word_there (written_by old).words 1453 1 place differ ∙ blank.words place;
     })
 
 -- ---- after it
@@ -77,8 +74,12 @@ prepared table opening handed old new is view =
 pub two_published : (w v : WriterView) → IsPrepared w → v ≡ with_next many_published w → length v.published ≡ 2
 two_published w v h is = ap (λ (x : WriterView). length x.published) is ∙ ap (λ (xs : List Published). length (xs ++ many_published ∷ [])) h.published
 
-pub second_many : (w v : WriterView) → IsPrepared w → v ≡ with_next many_published w → published_at v.published 1 ≡ many_published
+second_many : (w v : WriterView) → IsPrepared w → v ≡ with_next many_published w → published_at v.published 1 ≡ many_published
 second_many w v h is = ap (λ (x : WriterView). published_at x.published 1) is ∙ ap (λ (xs : List Published). published_at (xs ++ many_published ∷ []) 1) h.published
+
+-- who begins is under it
+pub plays_many : (table : TableId) (opening : Opening) (w v : WriterView) (token : tokens.Member) → IsPrepared w → v ≡ with_next many_published w → IsWorking table opening 0 token → IsUnder (published_at v.published 1) (view_of token) → turns_done 0 (view_of token) ≡ 0 → IsPlaying table opening 0 many_published token
+plays_many table opening w v token h is works under turns = record { works = works; under = under ∙ second_many w v h is; turns = turns }
 
 -- each instance is current, and the sixteenth is doomed
 pub current_many : (p : Published) (serial : ℕ) → p ≡ many_published → 1 ≤ serial → serial ≤ 17 → is_current p serial ≡ true
@@ -99,11 +100,8 @@ may_note table opening handed old mid new is view next = record {
 -- ---- as the table begins
 
 pub may_doom_begun : (table : TableId) (opening : Opening) (handed : ℕ) (writer : writers.Writer) → IsHanding table opening handed writer.seat → MayStoreWord (written_by writer) 1453 1
-may_doom_begun table opening handed writer is = may_doom (written_by writer) (begun_empty table opening handed writer is).kept
+may_doom_begun table opening handed writer is = may_doom (written_by writer) (handing_blank table opening handed writer is).kept
 
 -- its newest generation is 0, and still is
 pub begun_zero : (table : TableId) (opening : Opening) (handed : ℕ) (old new : writers.Writer) → IsHanding table opening handed old.seat → IsWriterOf table opening old → new.generation ≡ old.generation → new.generation ≡ 0
-begun_zero table opening handed old new is token same = same ∙ begun_newest table opening handed old is token
-
-pub under_many : (w v : WriterView) (m : MemberView) → IsPrepared w → v ≡ with_next many_published w → IsUnder (published_at v.published 1) m → IsUnder many_published m
-under_many w v m h is under = under ∙ second_many w v h is
+begun_zero table opening handed old new is token same = same ∙ handing_first table opening handed old is token

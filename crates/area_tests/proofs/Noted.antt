@@ -8,9 +8,8 @@ use Rattle.shared_words.specs.declared.seats.Member as tokens
 use Rattle.shared_words.specs.declared.seats.Writer as writers
 use Rattle.shared_words.specs.declared.view.NoteNumber.{NoteNumber}
 use Rattle.shared_words.specs.declared.view.WriterView.{WriterView}
-use Rattle.shared_words.specs.Making.{IsHanding, IsMemberBegun}
+use Rattle.shared_words.specs.Making.{IsMemberBegun}
 use Rattle.shared_words.specs.Notes.{MaySplitNote, with_note, note_number}
-use Rattle.shared_words.specs.Seats.{writer_of}
 use Rattle.shared_words.specs.Views.{published_at}
 use Rattle.progress_words.specs.Tokens.{view_of, written_by, IsWriterOf}
 use Rattle.literal_areas.specs.declared.areas.Areas.{Areas}
@@ -20,10 +19,6 @@ use Rattle.area_tests.specs.Work.{IsWorking, IsUnder, turns_done}
 
 none_at : (k : ℕ) {x : NoteNumber} → slice_get {X = NoteNumber} [] k ≡ Some x → ⊥
 none_at k e = (cc)
-
--- the writer of a new table has made no note
-pub begun_notes : (table : TableId) (opening : Opening) (handed : ℕ) (writer : writers.Writer) → IsHanding table opening handed writer.seat → (written_by writer).notes ≡ []
-begun_notes table opening handed writer is = ap (λ (w : WriterView). w.notes) (ap writer_of is.view)
 
 pub first_note : (w : WriterView) → w.notes ≡ [] → MaySplitNote w 0
 first_note w none = record {

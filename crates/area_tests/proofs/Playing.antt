@@ -7,8 +7,7 @@ use Rattle.prgr_core.specs.declared.member.Role.TheVariants.{Follows, Leads}
 use Rattle.prgr_core.specs.Members.{role_knowing}
 use Rattle.prgr_core.specs.Step.{follows}
 use Rattle.term_core.specs.declared.area.AreaRef.{AreaRef}
-use Rattle.term_core.specs.declared.hold.Kind.{Kind}
-use Rattle.term_core.specs.declared.hold.Kind.TheVariants.{Frame, Literal}
+use Rattle.term_core.specs.declared.hold.Kind.TheVariants.{Frame}
 use Rattle.area_core.specs.declared.table.Published.{Published}
 use Rattle.area_core.specs.Generations.{has_serial, is_current}
 use Rattle.marks.specs.Names.{IsAtRest}
@@ -25,33 +24,15 @@ use Rattle.shared_words.specs.Slots.{with_slot}
 use Rattle.shared_words.specs.Kinds.{MayWait}
 use Rattle.progress_words.specs.Tokens.{view_of, IsMemberOf, IsSameMember}
 use Rattle.progress_words.specs.Reports.{IsAwake, HoldsReported, having_reported}
-use Rattle.anchors.specs.Holds.{anchors_of, HoldsAnchors, MayHold, HasHeld}
-use Rattle.anchors.specs.Drops.{HasDropped}
+use Rattle.anchors.specs.Holds.{anchors_of, MayHold}
 use Rattle.anchors.specs.Turns.{MayMark}
 use Rattle.area_tests.specs.Many.{many_serials, ref_one}
 use Rattle.area_tests.specs.Several.{three_published}
 use Rattle.area_tests.specs.Work.{IsWorking, IsUnder, GoesOn, HasEndedTurn, turns_done}
 use Rattle.area_tests.proofs.Instances.{serial_there}
-use Rattle.area_tests.proofs.Work.{held_works, held_under, held_turns, refused_works, dropped_works, dropped_under, dropped_turns}
 use Rattle.area_tests.proofs.Turned.{turn_works, turn_under, turn_rests, turn_counts, all_rest}
 
 -- ---- holds and drops
-
-pub held_goes : (table : TableId) (opening : Opening) (process serial : ℕ) (kind : Kind) (old new : tokens.Member) → IsWorking table opening process old → IsMemberOf table new → new.number ≡ old.number → AreCopied new.anchors.items (view_of new) → HasHeld process kind serial (view_of old) (view_of new) → GoesOn table opening process old new
-held_goes table opening process serial kind old new h of number copied held = record {
-  works = held_works table opening process kind serial old new h of copied held;
-  under = λ p under. held_under process kind serial p (view_of old) (view_of new) held under;
-  turns = held_turns process kind serial (view_of old) (view_of new) held;
-  number = number;
-}
-
-pub refused_goes : (table : TableId) (opening : Opening) (process : ℕ) (old new : tokens.Member) → IsWorking table opening process old → IsMemberOf table new → new.number ≡ old.number → AreCopied new.anchors.items (view_of new) → view_of new ≡ view_of old → GoesOn table opening process old new
-refused_goes table opening process old new h of number copied same = record {
-  works = refused_works table opening process old new h of copied same;
-  under = λ p under. subst (IsUnder p) (sym same) under;
-  turns = ap (λ (m : MemberView). turns_done process m) same;
-  number = number;
-}
 
 pub none_goes : (table : TableId) (opening : Opening) (process : ℕ) (token : tokens.Member) → IsWorking table opening process token → GoesOn table opening process token token
 none_goes table opening process token h = record { works = h; under = λ p under. under; turns = refl; number = refl }
@@ -64,14 +45,6 @@ goes_again table opening process a b c first second = record {
   number = second.number ∙ first.number;
 }
 
-pub dropped_goes : (table : TableId) (opening : Opening) (process serial : ℕ) (kind : Kind) (old new : tokens.Member) → IsWorking table opening process old → IsMemberOf table new → new.number ≡ old.number → AreCopied new.anchors.items (view_of new) → HasDropped process kind serial (view_of old) (view_of new) → GoesOn table opening process old new
-dropped_goes table opening process serial kind old new h of number copied dropped = record {
-  works = dropped_works table opening process kind serial old new h of copied dropped;
-  under = λ p under. dropped_under process kind serial p (view_of old) (view_of new) dropped under;
-  turns = dropped_turns process kind serial (view_of old) (view_of new) dropped;
-  number = number;
-}
-
 -- each of the three is current under the first generation, and may be held
 pub current_one : (at : ℕ) (area : AreaRef) → at < 3 → area ≡ ref_one at → is_current three_published area.serial ≡ true
 current_one at area low is = ap (λ (a : AreaRef). has_serial (many_serials 3) a.serial) is ∙ serial_there 3 at low
@@ -82,10 +55,6 @@ room_one at area low is = (let same : area.serial ≡ suc at = ap (λ (a : AreaR
 
 pub may_first : (process serial : ℕ) (m : MemberView) → is_current three_published serial ≡ true → IsUnder three_published m → MayHold process Frame serial m
 may_first process serial m current under = inr (ap (λ (p : Published). is_current p serial) under ∙ current)
-
--- what is held for a frame may be held for a literal
-pub may_too : (process serial : ℕ) (m : MemberView) → HoldsAnchors Frame (anchors_of m process) serial → MayHold process Literal serial m
-may_too process serial m held = inr (inr held)
 
 -- ---- turns
 

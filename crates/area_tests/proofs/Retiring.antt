@@ -31,18 +31,18 @@ use Rattle.literal_areas.specs.Owned.{AreOf, IsListed, IsPast}
 use Rattle.literal_areas.specs.Written.{IsPublished}
 use Rattle.literal_areas.proofs.Uses.{use_here, use_other}
 use Rattle.literal_areas.proofs.Serials.{use_after}
-use Rattle.area_tests.specs.First.{IsBegun}
+use Rattle.new_tables.specs.Blank.{IsBlank}
+use Rattle.new_tables.proofs.Emptied.{no_element, never}
 use Rattle.area_tests.specs.Gone.{AreGone}
 use Rattle.area_tests.specs.Many.{many_serials, ref_one, kept_one, kepts}
 use Rattle.area_tests.specs.Several.{three_published, retired_published, AreTaken, AreRetiring}
-use Rattle.area_tests.proofs.Instances.{each_kept, each_ref, ref_there, kept_there, image_there, all_apart, serial_there, serial_is, only_current, may_publish_current}
-use Rattle.area_tests.proofs.Publishing.{no_element, never, none_found}
+use Rattle.area_tests.proofs.Instances.{each_kept, each_ref, ref_there, kept_there, image_there, all_apart, serial_there, serial_is, only_current, may_publish_current, none_found}
 
 -- ---- they are published
 
-module _ (w : WriterView) (begun : IsBegun w) (one : w.published ≡ opening_published ∷ []) where
+module _ (w : WriterView) (blank : IsBlank w) where
   pub may_publish_three : (Served : Published → Type 0) → Served three_published → MayPublish Served w three_published
-  may_publish_three = may_publish_current 3 (omega (arith)) [] refl refl w one begun.kept (λ place differ. begun.words place) (λ i low. ap (λ (n : ℕ). tells n 1) (begun.words (doom_place (9 + i)))) (λ i low. ap (λ (n : ℕ). tells n 0) (begun.words (doom_place (9 + i))))
+  may_publish_three = may_publish_current 3 (omega (arith)) [] refl refl w blank.published blank.kept (λ place differ. blank.words place) (λ i low. ap (λ (n : ℕ). tells n 1) (blank.words (doom_place (9 + i)))) (λ i low. ap (λ (n : ℕ). tells n 0) (blank.words (doom_place (9 + i))))
 
   module _ (s : Areas) (taken : AreTaken 3 s) where
     three_listed : IsListed s three_published
@@ -59,14 +59,21 @@ module _ (w : WriterView) (begun : IsBegun w) (one : w.published ≡ opening_pub
       retired = λ i low. absurd (omega (arith, low));
       live = λ i first low. taken.live i low;
       others = λ block serial since there. absurd (taken.none block serial since there);
-      published = ap (λ (xs : List Published). xs ++ three_published ∷ []) one;
-      kept = ap (λ (xs : List KeptArea). xs ++ fresh_areas xs three_published) begun.kept;
+      published = ap (λ (xs : List Published). xs ++ three_published ∷ []) blank.published;
+      kept = ap (λ (xs : List KeptArea). xs ++ fresh_areas xs three_published) blank.kept;
       told = λ i low. absurd (omega (arith, low));
-      blank = λ place high. begun.words place;
+      blank = λ place high. blank.words place;
     })
 
 pub three_root : IsRootOf three_published.root 0 0 0
 three_root = record { code_is = refl; bp_is = refl; term_is = refl }
+
+-- the root has room
+pub blank_room : (table : TableId) (opening : Opening) (writer : writers.Writer) → IsWriterOf table opening writer → IsBlank (written_by writer) → writer.generation + 1 < 2 ^ 59
+blank_room table opening writer token blank =
+    let one = ap (λ (xs : List Published). length xs) blank.published in
+    let counted = token.published in
+    omega (arith, one, counted)
 
 -- ---- one more is retired
 
@@ -163,21 +170,21 @@ module _ (s : Areas) (w : WriterView) (h : AreRetiring 3 s w) where
   abbrev all : List Published
   all = opening_published ∷ three_published ∷ retired_published ∷ []
 
-  -- what is retired is used by no later generation
-  stays : (g later : ℕ) (p q : Published) (serial : ℕ) → g ≤ later → slice_get all g ≡ Some p → slice_get all later ≡ Some q → IsTrue (is_retired_area p serial) → is_used q serial ≡ false
-  stays zero later p q serial le at_p at_q old = absurd (never (ap (λ (x : Published). is_retired_area x serial) (some_same opening_published p at_p) ∙ old))
-  stays (suc zero) later p q serial le at_p at_q old = absurd (never (ap (λ (x : Published). is_retired_area x serial) (some_same three_published p at_p) ∙ old))
-  stays (suc (suc zero)) zero p q serial le at_p at_q old = absurd (omega (arith, le))
-  stays (suc (suc zero)) (suc zero) p q serial le at_p at_q old = absurd (omega (arith, le))
-  stays (suc (suc zero)) (suc (suc zero)) p q serial le at_p at_q old = ap (λ (x : Published). is_used x serial) (sym (some_same retired_published q at_q))
-  stays (suc (suc zero)) (suc (suc (suc k))) p q serial le at_p at_q old = absurd (no_element k at_q)
-  stays (suc (suc (suc k))) later p q serial le at_p at_q old = absurd (no_element k at_p)
+  each : (Holds : ℕ → Published → Type 0) → Holds 0 opening_published → Holds 1 three_published → Holds 2 retired_published → (g : ℕ) (p : Published) → slice_get all g ≡ Some p → Holds g p
+  each Holds one two three zero p at = subst (Holds 0) (some_same opening_published p at) one
+  each Holds one two three (suc zero) p at = subst (Holds 1) (some_same three_published p at) two
+  each Holds one two three (suc (suc zero)) p at = subst (Holds 2) (some_same retired_published p at) three
+  each Holds one two three (suc (suc (suc g))) p at = absurd (no_element g at)
 
-  none_old : (g : ℕ) (p : Published) (serial : ℕ) → slice_get all g ≡ Some p → has_serial p.state.old serial ≡ true → ⊥
-  none_old zero p serial at old = never (ap (λ (x : Published). has_serial x.state.old serial) (some_same opening_published p at) ∙ old)
-  none_old (suc zero) p serial at old = never (ap (λ (x : Published). has_serial x.state.old serial) (some_same three_published p at) ∙ old)
-  none_old (suc (suc zero)) p serial at old = never (ap (λ (x : Published). has_serial x.state.old serial) (some_same retired_published p at) ∙ old)
-  none_old (suc (suc (suc k))) p serial at old = absurd (no_element k at)
+  -- what is retired is used by no later generation
+  abbrev Stays : ℕ → ℕ → Published → Type 0
+  Stays serial g p = (later : ℕ) (q : Published) → g ≤ later → slice_get all later ≡ Some q → IsTrue (is_retired_area p serial) → is_used q serial ≡ false
+
+  stays : (serial g : ℕ) (p : Published) → slice_get all g ≡ Some p → Stays serial g p
+  stays serial = each (Stays serial) (λ later q le at old. absurd (never old)) (λ later q le at old. absurd (never old)) (λ later q le at old. each (λ k x. 2 ≤ k → is_used x serial ≡ false) (λ low. absurd (omega (arith, low))) (λ low. absurd (omega (arith, low))) (λ low. refl) later q at le)
+
+  none_old : (serial g : ℕ) (p : Published) → slice_get all g ≡ Some p → has_serial p.state.old serial ≡ true → ⊥
+  none_old serial = each (λ g x. has_serial x.state.old serial ≡ true → ⊥) never never never
 
   here : (g : ℕ) (p : Published) → slice_get (w.published ++ retired_published ∷ []) g ≡ Some p → slice_get all g ≡ Some p
   here g p at = ap (λ (xs : List Published). slice_get (xs ++ retired_published ∷ []) g) (sym h.published) ∙ at
@@ -185,8 +192,8 @@ module _ (s : Areas) (w : WriterView) (h : AreRetiring 3 s w) where
   pub may_publish_retired : (Served : Published → Type 0) → Served retired_published → MayPublish Served w retired_published
   may_publish_retired Served served = record {
     served = served;
-    old_stays = λ g later p q serial le at_p at_q old. absurd (none_old g p serial (here g p at_p) old);
-    retired_stays = λ g later p q serial le at_p at_q retired. stays g later p q serial le (here g p at_p) (here later q at_q) retired;
+    old_stays = λ g later p q serial le at_p at_q old. absurd (none_old serial g p (here g p at_p) old);
+    retired_stays = λ g later p q serial le at_p at_q retired. stays serial g p (here g p at_p) later q le (here later q at_q) retired;
     areas_go_on = record {
       apart = λ a c at_a at_c serial.
           let first = each_ref 3 a at_a in

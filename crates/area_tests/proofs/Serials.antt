@@ -6,7 +6,7 @@ use Rattle.literal_areas.specs.declared.blocks.BlockUse.TheVariants.{Free, Live}
 use Rattle.literal_areas.specs.declared.areas.Areas.{Areas}
 use Rattle.literal_areas.specs.declared.taking.Take.{Take}
 use Rattle.literal_areas.specs.declared.taking.Take.TheVariants.{Area, AllLive, AwaitRelease}
-use Rattle.literal_areas.specs.Blocks.{HasAnswered, HasTaken, opening_areas, IsLast, IsLive}
+use Rattle.literal_areas.specs.Blocks.{HasAnswered, HasTaken, IsLast, IsLive}
 use Rattle.literal_areas.proofs.Uses.{use_here}
 
 -- the next serial is at most one more
@@ -28,7 +28,3 @@ taken_last pool old new answer area told is =
 -- and is live
 pub taken_live : (pool : Pool) (old new : Areas) (answer : Take) (area : AreaRef) → HasAnswered pool old new answer → answer ≡ Area area → IsLive new area
 taken_live pool old new answer area told is = (taken_last pool old new answer area told is).live
-
--- what is taken first
-pub taken_first : (pool : Pool) (old new : Areas) (answer : Take) (area : AreaRef) → HasAnswered pool old new answer → answer ≡ Area area → old ≡ opening_areas → HasTaken pool area opening_areas new
-taken_first pool old new answer area told is first = subst (λ (z : Areas × Take). HasAnswered pool z.0 new z.1) (λ i. (first i, is i)) told

@@ -11,9 +11,8 @@ use Rattle.area_core.specs.declared.readers.Slots.TheVariants.{OfMember}
 use Rattle.area_core.specs.Readers.{is_slot_of}
 use Rattle.area_core.specs.Step.{opening_published}
 use Rattle.area_core.proofs.Counted.{opened}
-use Rattle.marks.specs.Names.{IsAtRest, tells_kill}
-use Rattle.marks.specs.Steps.{opening_process, nothing_kept, HasNote}
-use Rattle.marks.proofs.Opening.{opens}
+use Rattle.marks.specs.Names.{tells_kill}
+use Rattle.marks.specs.Steps.{HasNote}
 use Rattle.shared_words.specs.declared.opening.Opening.{Opening}
 use Rattle.shared_words.specs.declared.seats.Member as tokens
 use Rattle.shared_words.specs.declared.seats.Note as notes
@@ -28,21 +27,13 @@ use Rattle.shared_words.specs.Processes.{slot_in, note_in, under_of, AreAtRest, 
 use Rattle.shared_words.specs.Rule.{IsBeginning}
 use Rattle.shared_words.specs.Seats.{IsRooted}
 use Rattle.shared_words.proofs.ShownMembers.{still_at, there_is}
-use Rattle.shared_words.proofs.SlotFrames.{rests}
 use Rattle.progress_words.specs.Tokens.{view_of, noted_by, IsMemberOf, IsSameMember, IsNoteOf}
 use Rattle.progress_words.specs.Reports.{IsAwake, HoldsReported, having_reported}
 use Rattle.anchors.specs.Holds.{anchors_of, IsUnkilled, MayRun}
+use Rattle.new_tables.proofs.Begun.{empty_rests}
 use Rattle.area_tests.specs.Work.{IsWorking, IsUnder, turns_done}
 
 -- ---- a member without a slot
-
--- it is between turns
-pub empty_rests : (m : MemberView) → m.slots ≡ [] → AreAtRest m
-empty_rests m none_stored process =
-    let asleep = under_of (record (member_begun 0) { member = record (member_begun 0).member { word = 0 } }) in
-    let rest = rests asleep process opening_process nothing_kept refl (opens asleep process) in
-    let empty : IsAtRest (record opening_process { note = note_in m.notes process }) = record { frames = rest.frames; literals = rest.literals } in
-    subst (λ (xs : List ProcessSlot). IsAtRest (record { slot = (slot_in xs process).slot; marks = (slot_in xs process).marks; note = note_in m.notes process })) (sym none_stored) empty
 
 zeros : (n place word : ℕ) → slice_get (replicate n 0) place ≡ Some word → word ≡ 0
 zeros zero place word at = absurd (none_at place at) where

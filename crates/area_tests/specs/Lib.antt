@@ -1,6 +1,6 @@
-pub mod First
 pub mod Gone
+pub mod Keyed
 pub mod Many
 pub mod Several
-pub mod Work
 pub mod Three
+pub mod Work

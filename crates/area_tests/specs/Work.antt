@@ -1,5 +1,5 @@
 -- A member with one process that makes turns.
-use Rattle.std.specs.Prelude.{◌≡◌, ℕ, ◌+◌, ◌<◌, [], length, IsTrue}
+use Rattle.std.specs.Prelude.{◌≡◌, ℕ, ◌+◌, ◌<◌, length, IsTrue}
 use Rattle.atomic_table.specs.Seated.{TableId}
 use Rattle.prgr_core.specs.Step.{follows}
 use Rattle.area_core.specs.declared.table.Published.{Published}
@@ -10,7 +10,6 @@ use Rattle.shared_words.specs.declared.view.MemberView.{MemberView}
 use Rattle.shared_words.specs.Views.{published_at}
 use Rattle.shared_words.specs.Processes.{process_of, AreCopied}
 use Rattle.progress_words.specs.Tokens.{view_of, IsMemberOf}
-use Rattle.progress_words.specs.Leads.{IsLeader}
 use Rattle.anchors.specs.Holds.{anchors_of, MayRun, IsUnkilled}
 
 -- the process may end a turn: its member's token is one of this table and awake, and its other processes have no turn under way
@@ -55,9 +54,3 @@ pub record HasEndedTurn (table : TableId) (opening : Opening) (process : ℕ) (o
   pub under : (p : Published) → IsUnder p (view_of old) → IsUnder p (view_of new)
   pub turns : turns_done process (view_of new) ≡ turns_done process (view_of old) + 1
   pub number : new.number ≡ old.number
-
--- the member leads, and none of its processes has a slot
-pub record IsHeading (table : TableId) (token : tokens.Member) : Type 0 where
-  pub of : IsMemberOf table token
-  pub leads : IsLeader (view_of token)
-  pub slots : (view_of token).slots ≡ []

@@ -1,6 +1,12 @@
-//! Tests of what stands in the blocks and slots of the shared table.
+//! Tests of what stands in the words of the shared table: blocks, slots, code indices and term tables, and of the numbers that code indices go by.
 #![tactic(auto)]
 
+#[cfg(test)]
+mod exports;
+#[cfg(test)]
+mod keys;
+#[cfg(test)]
+mod leading;
 #[cfg(test)]
 mod never;
 #[cfg(test)]
@@ -16,7 +22,11 @@ mod several;
 #[cfg(test)]
 mod slots;
 #[cfg(test)]
+mod staged;
+#[cfg(test)]
 mod starting;
+#[cfg(test)]
+mod tables;
 #[cfg(test)]
 mod three;
 #[cfg(test)]

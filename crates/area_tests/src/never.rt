@@ -15,9 +15,9 @@ ghost use Rattle.area_tests.specs.Work.{IsPlaying};
 use crate::players::{TURNS, play};
 use crate::several::{AREAS, retire_all, take_all};
 use crate::starting::begin_work;
+use crate::tables::Any;
 use crate::three::{Three, join_three, take_three};
 use crate::writing::{Written, write_all};
-use crate::written::Any;
 use literal_areas::Pools;
 use shared_words::{Member, Parts, Shared, Writer, close};
 use std::alloc::Global;
@@ -40,7 +40,7 @@ struct Told {
 }
 
 /// Both members begin; answers whether they hold the generation that uses the areas.
-#[tactic(auto, using(crate::proofs::Members::of_begun, crate::proofs::Members::view_begun, crate::proofs::Members::copied_begun, crate::proofs::Noted::first_note, crate::proofs::Noted::second_note, crate::proofs::Noted::two_retiring, crate::proofs::Noted::retiring_noted, crate::proofs::Noted::prepared))]
+#[tactic(auto, using(new_tables::proofs::Begun::of_begun, new_tables::proofs::Begun::view_begun, new_tables::proofs::Begun::copied_begun, crate::proofs::Noted::first_note, crate::proofs::Noted::second_note, crate::proofs::Noted::two_retiring, crate::proofs::Noted::retiring_noted, crate::proofs::Noted::prepared))]
 fn begin_both(
     shared: &Shared<Any>,
     writer: &mut Writer,
@@ -65,7 +65,7 @@ fn begin_both(
 }
 
 /// Takes the areas, publishes and retires them; then both members begin.
-#[tactic(auto, using(crate::proofs::Begun::begun_empty, crate::proofs::Begun::begun_newest, crate::proofs::Begun::begun_published, crate::proofs::Noted::begun_notes))]
+#[tactic(auto, using(new_tables::proofs::Blank::handing_blank))]
 fn prepare(
     shared: &Shared<Any>,
     writer: &mut Writer,
@@ -114,7 +114,7 @@ fn play_both<R: Threads + Sync>(
 }
 
 /// The writer and both members do their parts, each in a thread of its own.
-#[tactic(auto, using(crate::proofs::Members::of_begun, crate::proofs::Members::view_begun, crate::proofs::Ended::three_ended))]
+#[tactic(auto, using(crate::proofs::Members::three_ended))]
 fn run_beside<R: Threads + Sync>(
     rt: &R,
     shared: &Shared<Any>,

@@ -11,7 +11,7 @@ ghost use Rattle.area_tests.specs.Work.{IsWorking, IsPlaying, IsUnder, GoesOn, H
 ghost use Rattle.area_tests.specs.declared.players.TheConstants.{EARLY, TURNS};
 
 use crate::several::{AREAS, area_of};
-use crate::written::Any;
+use crate::tables::Any;
 use anchors::{drop_hold, hold, mark_turn};
 use progress_words::{report, wait};
 use shared_words::{ANCHORS, Member, Shared};
@@ -48,7 +48,7 @@ fn names_area(member: &Member, process: u32, serial: u64, kind: Kind) -> bool
 }
 
 /// Holds the area.
-#[tactic(auto, using(crate::proofs::Playing::held_goes, crate::proofs::Playing::refused_goes))]
+#[tactic(auto, using(crate::proofs::Work::held_goes, crate::proofs::Work::refused_goes))]
 fn hold_one(shared: &Shared<Any>, member: &mut Member, process: u32, area: AreaRef, kind: Kind)
     requires works { IsWorking shared.now.table.shared.table_id shared.now.table.shared.key process member.old }
     requires room { area.serial < 2 ^ 62 }
@@ -62,7 +62,7 @@ fn hold_one(shared: &Shared<Any>, member: &mut Member, process: u32, area: AreaR
 }
 
 /// Drops the area, if the slot names it for the kind.
-#[tactic(auto, using(crate::proofs::Playing::dropped_goes, crate::proofs::Playing::none_goes))]
+#[tactic(auto, using(crate::proofs::Work::dropped_goes, crate::proofs::Playing::none_goes))]
 fn try_drop(shared: &Shared<Any>, member: &mut Member, process: u32, area: AreaRef, kind: Kind)
     requires works { IsWorking shared.now.table.shared.table_id shared.now.table.shared.key process member.old }
     ensures { GoesOn shared.now.table.shared.table_id shared.now.table.shared.key process member.old member.new }
@@ -87,7 +87,7 @@ fn try_frame(shared: &Shared<Any>, member: &mut Member, process: u32, area: Area
 }
 
 /// Holds the area for a literal, where the slot names it for a frame.
-#[tactic(auto, using(crate::proofs::Playing::may_too, crate::proofs::Playing::none_goes))]
+#[tactic(auto, using(crate::proofs::Naming::may_literal, crate::proofs::Playing::none_goes))]
 fn try_literal(shared: &Shared<Any>, member: &mut Member, process: u32, area: AreaRef)
     requires works { IsWorking shared.now.table.shared.table_id shared.now.table.shared.key process member.old }
     requires room { area.serial < 2 ^ 62 }

@@ -16,7 +16,7 @@ pub fn take_instances(pools: &mut Pools, first: u32, count: u32) -> u32
     requires few { count ≤ 64 }
     requires room { pools.old.next + count < 2 ^ 40 }
     ensures next { pools.new.next ≤ pools.old.next + count }
-    ensures gone { (w : WriterView) → AreGone 0 1 pools.old w → AreGone 0 1 pools.new w }
+    ensures gone { (w : WriterView) → AreGone 0 3 pools.old w → AreGone 0 3 pools.new w }
 {
     let mut right = 0;
     for at in 0..count {

@@ -1,17 +1,19 @@
 //! The wait for a retired area, the look through all slots, and its release.
 
 ghost use Rattle.std.specs.Prelude.{◌≡◌, ◌+◌, ◌≤◌, ◌<◌, true, false};
-ghost use Rattle.shared_words.specs.Opening.{member_begun};
-ghost use Rattle.progress_words.specs.Tokens.{view_of, written_by, IsMemberOf, IsWriterOf};
+ghost use Rattle.shared_words.specs.Making.{IsMemberBegun};
+ghost use Rattle.progress_words.specs.Tokens.{written_by, IsWriterOf};
 ghost use Rattle.progress_words.specs.Needs.{HasTaken};
+ghost use Rattle.new_tables.specs.Leading.{IsLeading};
 ghost use Rattle.area_tests.specs.Gone.{AreGone};
 ghost use Rattle.area_tests.specs.Several.{AreReleased};
 
-use crate::several::area_of;
-use crate::written::Any;
+use crate::leading::lead_on;
+use crate::several::{AREAS, area_of};
+use crate::tables::Any;
 use anchors::{Scan, scan};
 use literal_areas::Pools;
-use progress_words::{Advance, Lead, advance, later, lead, reached, report};
+use progress_words::{Advance, Lead, advance, later, lead, reached};
 use shared_words::{Member, Shared, Writer};
 
 /// The value to wait for, once generation 2 is published, from which on so many areas are retired.
@@ -29,17 +31,23 @@ pub fn take_need(shared: &Shared<Any>, writer: &mut Writer, pools: &Pools, areas
 }
 
 /// The one member of a table raises the counter twice: first as it is, and then once it has reported.
-#[tactic(auto, using(crate::proofs::Gone::begun_leads, crate::proofs::Gone::begun_still))]
+#[tactic(auto, using(new_tables::proofs::Begun::of_begun, new_tables::proofs::Heading::leader_may, new_tables::proofs::Heading::leads_first))]
 pub fn pass_both(shared: &Shared<Any>, member: &mut Member) -> bool
-    requires token { IsMemberOf shared.now.table.shared.table_id member.old }
-    requires begun { view_of member.old ≡ member_begun 0 }
+    requires { IsMemberBegun shared.now.table.shared.table_id 0 member.old }
 {
     let Lead::Led = lead(shared, member) else {
         return false;
     };
+    raise_both(shared, member)
+}
+
+/// The same, where it leads.
+#[tactic(auto, using(new_tables::proofs::Heading::leads_still))]
+fn raise_both(shared: &Shared<Any>, member: &mut Member) -> bool
+    requires { IsLeading shared.now.table.shared.table_id member.old }
+{
     let _first = advance(shared, member);
-    report(shared, member);
-    advance(shared, member) == Advance::Advanced(3)
+    lead_on(shared, member) == Advance::Advanced(3)
 }
 
 /// Looks through all slots, and releases the area behind so many where none names it.
@@ -71,7 +79,25 @@ pub fn release_clear(
     }
 }
 
-/// Releases the one area once the value is reached, where no slot names it.
+/// Whether the value is reached.
+#[tactic(auto, using(crate::proofs::Gone::gone_counted, crate::proofs::Gone::taken_still))]
+pub fn is_over(shared: &Shared<Any>, writer: &mut Writer, pools: &Pools, need: u64) -> bool
+    requires token { IsWriterOf shared.now.table.shared.table_id shared.now.table.shared.key writer.old }
+    requires gone { AreGone 0 3 pools.now (written_by writer.old) }
+    requires taken { HasTaken (written_by writer.old) 2 need }
+    ensures token { IsWriterOf shared.now.table.shared.table_id shared.now.table.shared.key writer.new }
+    ensures gone { AreGone 0 3 pools.now (written_by writer.new) }
+    ensures taken { HasTaken (written_by writer.new) 2 need }
+    ensures enough { result ≡ true → need ≤ (written_by writer.new).counter }
+{
+    let _ = pools;
+    match reached(shared, writer, need) {
+        Ok(()) => true,
+        Err(_) => false,
+    }
+}
+
+/// Releases the first area once the value is reached, where no slot names it.
 pub fn release_first(
     shared: &Shared<Any>,
     writer: &mut Writer,
@@ -79,12 +105,13 @@ pub fn release_first(
     need: u64,
 ) -> bool
     requires token { IsWriterOf shared.now.table.shared.table_id shared.now.table.shared.key writer.old }
-    requires gone { AreGone 0 1 pools.old (written_by writer.old) }
+    requires gone { AreGone 0 3 pools.old (written_by writer.old) }
     requires taken { HasTaken (written_by writer.old) 2 need }
     ensures next { pools.new.next ≡ pools.old.next }
 {
-    match reached(shared, writer, need) {
-        Ok(()) => release_clear(shared, writer, pools, 0, 1, need),
-        Err(_) => false,
+    if is_over(shared, writer, pools, need) {
+        release_clear(shared, writer, pools, 0, AREAS, need)
+    } else {
+        false
     }
 }

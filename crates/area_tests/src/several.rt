@@ -1,18 +1,17 @@
 //! Three areas without words, which are taken, published and retired. They have the serials from 1 on, and
 //! the blocks from 9 on.
 
-ghost use Rattle.std.specs.Prelude.{◌≡◌, ◌+◌, ◌<◌, true, [], ◌∷◌};
-ghost use Rattle.area_core.specs.Step.{opening_published};
+ghost use Rattle.std.specs.Prelude.{◌≡◌, ◌+◌, ◌<◌, true};
 ghost use Rattle.shared_words.specs.declared.view.WriterView.{WriterView};
 ghost use Rattle.progress_words.specs.Tokens.{written_by, IsWriterOf};
 ghost use Rattle.literal_areas.specs.Blocks.{opening_areas};
 ghost use Rattle.literal_areas.specs.Owned.{AreOf};
-ghost use Rattle.area_tests.specs.First.{IsBegun};
+ghost use Rattle.new_tables.specs.Blank.{IsBlank};
 ghost use Rattle.area_tests.specs.Gone.{AreGone};
 ghost use Rattle.area_tests.specs.Many.{ref_one};
 ghost use Rattle.area_tests.specs.Several.{AreTaken, AreRetiring};
 
-use crate::written::Any;
+use crate::tables::Any;
 use literal_areas::{Pool, Pools, Take, roots_keep_pools};
 use shared_words::{Next, Shared, Writer};
 use term_core::AreaRef;
@@ -77,13 +76,11 @@ pub fn take_all(pools: &mut Pools) -> bool
 }
 
 /// Publishes the generation in which the areas are current.
-#[tactic(auto, using(crate::proofs::Retiring::three_root))]
+#[tactic(auto, using(crate::proofs::Retiring::three_root, crate::proofs::Retiring::blank_room))]
 fn publish_current(shared: &Shared<Any>, writer: &mut Writer, pools: &Pools)
     // a table on which only the opening generation was published
     requires token { IsWriterOf shared.now.table.shared.table_id shared.now.table.shared.key writer.old }
-    requires room { writer.old.generation ≡ 0 }
-    requires begun { IsBegun (written_by writer.old) }
-    requires one { (written_by writer.old).published ≡ opening_published ∷ [] }
+    requires blank { IsBlank (written_by writer.old) }
     // areas that are taken, and not published yet
     requires taken { AreTaken 3 pools.now }
     requires owned { AreOf pools.now (written_by writer.old) }
@@ -102,6 +99,7 @@ fn retire_next(shared: &Shared<Any>, writer: &mut Writer, pools: &mut Pools, at:
     requires token { IsWriterOf shared.now.table.shared.table_id shared.now.table.shared.key writer.old }
     requires few { at < 3 }
     requires retiring { AreRetiring at pools.old (written_by writer.old) }
+    ensures next { pools.new.next ≡ pools.old.next }
     ensures token { IsWriterOf shared.now.table.shared.table_id shared.now.table.shared.key writer.new }
     ensures notes { (written_by writer.new).notes ≡ (written_by writer.old).notes }
     ensures retiring { AreRetiring (at + 1) pools.new (written_by writer.new) }
@@ -114,13 +112,12 @@ fn retire_next(shared: &Shared<Any>, writer: &mut Writer, pools: &mut Pools, at:
 pub fn retire_all(shared: &Shared<Any>, writer: &mut Writer, pools: &mut Pools)
     // a table on which only the opening generation was published
     requires token { IsWriterOf shared.now.table.shared.table_id shared.now.table.shared.key writer.old }
-    requires room { writer.old.generation ≡ 0 }
-    requires begun { IsBegun (written_by writer.old) }
-    requires one { (written_by writer.old).published ≡ opening_published ∷ [] }
+    requires blank { IsBlank (written_by writer.old) }
     // areas that are taken, and not published yet
     requires taken { AreTaken 3 pools.old }
     requires owned { AreOf pools.old (written_by writer.old) }
     // the generation in which they are retired comes next
+    ensures next { pools.new.next ≡ pools.old.next }
     ensures token { IsWriterOf shared.now.table.shared.table_id shared.now.table.shared.key writer.new }
     ensures notes { (written_by writer.new).notes ≡ (written_by writer.old).notes }
     ensures retiring { AreRetiring 3 pools.new (written_by writer.new) }

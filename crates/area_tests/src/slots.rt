@@ -9,14 +9,15 @@ ghost use Rattle.shared_words.specs.Publishing.{with_next};
 ghost use Rattle.progress_words.specs.Tokens.{view_of, written_by, IsMemberOf, IsWriterOf};
 ghost use Rattle.anchors.specs.Holds.{anchors_of, HoldsAnchors};
 ghost use Rattle.area_tests.specs.Many.{many_published, IsPrepared};
-ghost use Rattle.area_tests.specs.Work.{IsWorking, IsUnder, turns_done};
+ghost use Rattle.area_tests.specs.Work.{IsPlaying};
 
 use crate::starting::begin_work;
-use crate::written::Any;
+use crate::tables::{Any, last_words};
 use anchors::{drop_hold, hold, kill, mark_turn};
-use shared_words::{Member, Next, Parts, Shared, Writer, close};
+use shared_words::{Member, Next, Parts, Shared, Writer};
+use std::alloc::Global;
 use std::test::Fail;
-use term_core::{AreaRef, Full, Kind};
+use term_core::{AreaRef, Full, Kind, NoMemory, WordList};
 
 /// The generation of seventeen instances.
 struct Many;
@@ -43,14 +44,11 @@ fn publish_many(shared: &Shared<Any>, writer: &mut Writer)
 }
 
 /// Holds an instance for a frame, where the slot has room.
-#[tactic(auto, using(crate::proofs::Work::held_works, crate::proofs::Work::held_under, crate::proofs::Work::held_turns, crate::proofs::Work::held_names, crate::proofs::Work::refused_works, crate::proofs::Naming::may_frame))]
+#[tactic(auto, using(crate::proofs::Work::held_plays, crate::proofs::Work::held_names, crate::proofs::Work::refused_plays, crate::proofs::Naming::may_frame))]
 fn hold_frame(shared: &Shared<Any>, member: &mut Member, serial: u64) -> bool
-    requires works { IsWorking shared.now.table.shared.table_id shared.now.table.shared.key 0 member.old }
-    requires under { IsUnder many_published (view_of member.old) }
+    requires plays { IsPlaying shared.now.table.shared.table_id shared.now.table.shared.key 0 many_published member.old }
     requires serial { (1 ≤ serial) × (serial ≤ 17) }
-    ensures works { IsWorking shared.now.table.shared.table_id shared.now.table.shared.key 0 member.new }
-    ensures under { IsUnder many_published (view_of member.new) }
-    ensures turns { turns_done 0 (view_of member.new) ≡ turns_done 0 (view_of member.old) }
+    ensures plays { IsPlaying shared.now.table.shared.table_id shared.now.table.shared.key 0 many_published member.new }
     ensures holds { result ≡ true → HoldsAnchors kinds.Frame (anchors_of (view_of member.new) 0) serial }
 {
     match hold(shared, member, 0, AreaRef { serial, block: 0 }, Kind::Frame) {
@@ -59,21 +57,16 @@ fn hold_frame(shared: &Shared<Any>, member: &mut Member, serial: u64) -> bool
     }
 }
 
-/// Holds an instance for a frame and then for a literal.
-#[tactic(auto, using(crate::proofs::Work::held_works, crate::proofs::Work::held_under, crate::proofs::Work::held_turns, crate::proofs::Work::held_names, crate::proofs::Work::refused_works, crate::proofs::Naming::may_literal, crate::proofs::Naming::still_frame))]
-fn hold_both(shared: &Shared<Any>, member: &mut Member, serial: u64) -> bool
-    requires works { IsWorking shared.now.table.shared.table_id shared.now.table.shared.key 0 member.old }
-    requires under { IsUnder many_published (view_of member.old) }
-    requires serial { (1 ≤ serial) × (serial ≤ 17) }
-    ensures works { IsWorking shared.now.table.shared.table_id shared.now.table.shared.key 0 member.new }
-    ensures under { IsUnder many_published (view_of member.new) }
-    ensures turns { turns_done 0 (view_of member.new) ≡ turns_done 0 (view_of member.old) }
+/// Holds an instance, which it names for a frame, for a literal too.
+#[tactic(auto, using(crate::proofs::Work::held_plays, crate::proofs::Work::held_names, crate::proofs::Work::refused_plays, crate::proofs::Naming::may_literal, crate::proofs::Naming::still_frame))]
+fn hold_literal(shared: &Shared<Any>, member: &mut Member, serial: u64) -> bool
+    requires plays { IsPlaying shared.now.table.shared.table_id shared.now.table.shared.key 0 many_published member.old }
+    requires serial { serial ≤ 17 }
+    requires held { HoldsAnchors kinds.Frame (anchors_of (view_of member.old) 0) serial }
+    ensures plays { IsPlaying shared.now.table.shared.table_id shared.now.table.shared.key 0 many_published member.new }
     ensures frame { result ≡ true → HoldsAnchors kinds.Frame (anchors_of (view_of member.new) 0) serial }
     ensures literal { result ≡ true → HoldsAnchors kinds.Literal (anchors_of (view_of member.new) 0) serial }
 {
-    if !hold_frame(shared, member, serial) {
-        return false;
-    }
     match hold(
         shared,
         member,
@@ -86,30 +79,39 @@ fn hold_both(shared: &Shared<Any>, member: &mut Member, serial: u64) -> bool
     }
 }
 
+/// Holds an instance for a frame and then for a literal.
+fn hold_both(shared: &Shared<Any>, member: &mut Member, serial: u64) -> bool
+    requires plays { IsPlaying shared.now.table.shared.table_id shared.now.table.shared.key 0 many_published member.old }
+    requires serial { (1 ≤ serial) × (serial ≤ 17) }
+    ensures plays { IsPlaying shared.now.table.shared.table_id shared.now.table.shared.key 0 many_published member.new }
+    ensures frame { result ≡ true → HoldsAnchors kinds.Frame (anchors_of (view_of member.new) 0) serial }
+    ensures literal { result ≡ true → HoldsAnchors kinds.Literal (anchors_of (view_of member.new) 0) serial }
+{
+    if hold_frame(shared, member, serial) {
+        hold_literal(shared, member, serial)
+    } else {
+        false
+    }
+}
+
 /// Names an instance for a frame no more.
-#[tactic(auto, using(crate::proofs::Work::dropped_works, crate::proofs::Work::dropped_under, crate::proofs::Work::dropped_turns, crate::proofs::Naming::literal_left))]
+#[tactic(auto, using(crate::proofs::Work::dropped_plays, crate::proofs::Naming::literal_left))]
 fn drop_frame(shared: &Shared<Any>, member: &mut Member, serial: u64)
-    requires works { IsWorking shared.now.table.shared.table_id shared.now.table.shared.key 0 member.old }
-    requires under { IsUnder many_published (view_of member.old) }
+    requires plays { IsPlaying shared.now.table.shared.table_id shared.now.table.shared.key 0 many_published member.old }
     requires frame { HoldsAnchors kinds.Frame (anchors_of (view_of member.old) 0) serial }
     requires literal { HoldsAnchors kinds.Literal (anchors_of (view_of member.old) 0) serial }
-    ensures works { IsWorking shared.now.table.shared.table_id shared.now.table.shared.key 0 member.new }
-    ensures under { IsUnder many_published (view_of member.new) }
-    ensures turns { turns_done 0 (view_of member.new) ≡ turns_done 0 (view_of member.old) }
+    ensures plays { IsPlaying shared.now.table.shared.table_id shared.now.table.shared.key 0 many_published member.new }
     ensures literal { HoldsAnchors kinds.Literal (anchors_of (view_of member.new) 0) serial }
 {
     drop_hold(shared, member, 0, AreaRef { serial, block: 0 }, Kind::Frame);
 }
 
 /// Names an instance for a literal no more.
-#[tactic(auto, using(crate::proofs::Work::dropped_works, crate::proofs::Work::dropped_under, crate::proofs::Work::dropped_turns))]
+#[tactic(auto, using(crate::proofs::Work::dropped_plays))]
 fn drop_literal(shared: &Shared<Any>, member: &mut Member, serial: u64)
-    requires works { IsWorking shared.now.table.shared.table_id shared.now.table.shared.key 0 member.old }
-    requires under { IsUnder many_published (view_of member.old) }
+    requires plays { IsPlaying shared.now.table.shared.table_id shared.now.table.shared.key 0 many_published member.old }
     requires literal { HoldsAnchors kinds.Literal (anchors_of (view_of member.old) 0) serial }
-    ensures works { IsWorking shared.now.table.shared.table_id shared.now.table.shared.key 0 member.new }
-    ensures under { IsUnder many_published (view_of member.new) }
-    ensures turns { turns_done 0 (view_of member.new) ≡ turns_done 0 (view_of member.old) }
+    ensures plays { IsPlaying shared.now.table.shared.table_id shared.now.table.shared.key 0 many_published member.new }
 {
     drop_hold(
         shared,
@@ -122,12 +124,9 @@ fn drop_literal(shared: &Shared<Any>, member: &mut Member, serial: u64)
 
 /// Names an instance no more, for neither kind.
 fn drop_both(shared: &Shared<Any>, member: &mut Member, serial: u64) -> bool
-    requires works { IsWorking shared.now.table.shared.table_id shared.now.table.shared.key 0 member.old }
-    requires under { IsUnder many_published (view_of member.old) }
+    requires plays { IsPlaying shared.now.table.shared.table_id shared.now.table.shared.key 0 many_published member.old }
     requires serial { (1 ≤ serial) × (serial ≤ 17) }
-    ensures works { IsWorking shared.now.table.shared.table_id shared.now.table.shared.key 0 member.new }
-    ensures under { IsUnder many_published (view_of member.new) }
-    ensures turns { turns_done 0 (view_of member.new) ≡ turns_done 0 (view_of member.old) }
+    ensures plays { IsPlaying shared.now.table.shared.table_id shared.now.table.shared.key 0 many_published member.new }
 {
     let both = hold_both(shared, member, serial);
     if both {
@@ -140,9 +139,7 @@ fn drop_both(shared: &Shared<Any>, member: &mut Member, serial: u64) -> bool
 /// The sixteenth instance, which is doomed, kills the process, which then ends its turn.
 #[tactic(auto, using(crate::proofs::Work::killed_ends, crate::proofs::Work::killed_turns, crate::proofs::Naming::doomed_many, crate::proofs::Naming::next_mark))]
 fn end_killed(shared: &Shared<Any>, member: &mut Member) -> bool
-    requires works { IsWorking shared.now.table.shared.table_id shared.now.table.shared.key 0 member.old }
-    requires under { IsUnder many_published (view_of member.old) }
-    requires turns { turns_done 0 (view_of member.old) ≡ 0 }
+    requires plays { IsPlaying shared.now.table.shared.table_id shared.now.table.shared.key 0 many_published member.old }
     ensures token { IsMemberOf shared.now.table.shared.table_id member.new }
     ensures number { member.new.number ≡ member.old.number }
 {
@@ -164,12 +161,9 @@ fn end_killed(shared: &Shared<Any>, member: &mut Member) -> bool
 
 /// Holds the first so many instances for frames; answers how many found room.
 fn hold_first(shared: &Shared<Any>, member: &mut Member, count: u64) -> u64
-    requires works { IsWorking shared.now.table.shared.table_id shared.now.table.shared.key 0 member.old }
-    requires under { IsUnder many_published (view_of member.old) }
+    requires plays { IsPlaying shared.now.table.shared.table_id shared.now.table.shared.key 0 many_published member.old }
     requires few { count ≤ 17 }
-    ensures works { IsWorking shared.now.table.shared.table_id shared.now.table.shared.key 0 member.new }
-    ensures under { IsUnder many_published (view_of member.new) }
-    ensures turns { turns_done 0 (view_of member.new) ≡ turns_done 0 (view_of member.old) }
+    ensures plays { IsPlaying shared.now.table.shared.table_id shared.now.table.shared.key 0 many_published member.new }
 {
     let mut held = 0;
     for serial in 1..count + 1 {
@@ -182,9 +176,7 @@ fn hold_first(shared: &Shared<Any>, member: &mut Member, count: u64) -> u64
 
 /// A slot of 16 areas has no room for a seventeenth, and has room for one of the 16 in the other kind.
 fn fill_slot(shared: &Shared<Any>, member: &mut Member) -> [bool; 7]
-    requires works { IsWorking shared.now.table.shared.table_id shared.now.table.shared.key 0 member.old }
-    requires under { IsUnder many_published (view_of member.old) }
-    requires turns { turns_done 0 (view_of member.old) ≡ 0 }
+    requires plays { IsPlaying shared.now.table.shared.table_id shared.now.table.shared.key 0 many_published member.old }
     ensures token { IsMemberOf shared.now.table.shared.table_id member.new }
     ensures number { member.new.number ≡ member.old.number }
 {
@@ -199,7 +191,7 @@ fn fill_slot(shared: &Shared<Any>, member: &mut Member) -> [bool; 7]
 }
 
 /// Publishes the generation, has the process begin, and fills its slot.
-#[tactic(auto, using(crate::proofs::Many::may_doom_begun, crate::proofs::Many::prepared, crate::proofs::Many::may_note, crate::proofs::Many::two_published, crate::proofs::Many::second_many, crate::proofs::Many::under_many, crate::proofs::Many::begun_zero, crate::proofs::Naming::one_of, crate::proofs::Naming::one_view, crate::proofs::Naming::one_copied))]
+#[tactic(auto, using(crate::proofs::Many::may_doom_begun, crate::proofs::Many::prepared, crate::proofs::Many::may_note, crate::proofs::Many::two_published, crate::proofs::Many::plays_many, crate::proofs::Many::begun_zero, new_tables::proofs::Begun::of_begun, new_tables::proofs::Begun::view_begun, new_tables::proofs::Begun::copied_begun))]
 fn begin_and_fill(shared: &Shared<Any>, writer: &mut Writer, member: &mut Member) -> [bool; 7]
     requires token { IsWriterOf shared.now.table.shared.table_id shared.now.table.shared.key writer.old }
     requires handing { IsHanding shared.now.table.shared.table_id shared.now.table.shared.key 1 writer.old.seat }
@@ -218,33 +210,38 @@ fn begin_and_fill(shared: &Shared<Any>, writer: &mut Writer, member: &mut Member
     }
 }
 
-/// A slot that is full: what each call answers, and the words of the slot when the table is closed.
-#[test]
-#[tactic(auto, using(crate::proofs::Naming::one_begun, crate::proofs::Naming::one_again))]
-fn a_slot_holds_sixteen_areas(rt: HostRuntime) -> Result<(), Fail> {
-    let (shared, parts) = Shared::<Any>::new(rt.alloc(), 1, 0)?;
+/// What each call answers over a new table, and its words at the end.
+fn fill_new(alloc: Global) -> Result<Option<([bool; 7], WordList)>, NoMemory> {
+    let (shared, parts) = Shared::<Any>::new(alloc, 1, 0)?;
     let Parts {
         mut writer,
         mut members,
         watchers,
     } = parts;
     let Some(mut member) = members.pop() else {
+        return Ok(None);
+    };
+    let answers = begin_and_fill(&shared, &mut writer, &mut member);
+    members.push(member)?;
+    let parts = Parts {
+        writer,
+        members,
+        watchers,
+    };
+    let words = last_words(alloc, shared, parts)?;
+    Ok(Some((answers, words)))
+}
+
+/// A slot that is full: what each call answers, and the words of the slot when the table is closed.
+#[test]
+fn a_slot_holds_sixteen_areas(rt: HostRuntime) -> Result<(), Fail> {
+    let Some(filled) = fill_new(rt.alloc())? else {
         assert!(rt; false, "there is a member");
         return Ok(());
     };
-    let answers = begin_and_fill(&shared, &mut writer, &mut member);
+    let answers = filled.0;
+    let words = filled.1;
     assert_eq!(rt; answers, [true, false, true, true, true, true, true]);
-    members.push(member)?;
-    let closed = close(
-        rt.alloc(),
-        shared,
-        Parts {
-            writer,
-            members,
-            watchers,
-        },
-    )?;
-    let words = closed.words();
     let slot = [
         1, 69, 9, 13, 17, 21, 25, 29, 33, 37, 41, 45, 49, 53, 57, 61, 64,
     ];

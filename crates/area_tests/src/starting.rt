@@ -8,7 +8,7 @@ ghost use Rattle.shared_words.specs.Processes.{AreCopied};
 ghost use Rattle.progress_words.specs.Tokens.{view_of, written_by, IsMemberOf, IsWriterOf};
 ghost use Rattle.area_tests.specs.Work.{IsWorking, IsUnder, turns_done};
 
-use crate::written::Any;
+use crate::tables::Any;
 use progress_words::{learn, note, report};
 use shared_words::{Member, Shared, Writer};
 

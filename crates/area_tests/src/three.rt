@@ -5,7 +5,7 @@ ghost use Rattle.shared_words.specs.Making.{AreMembersBegun, IsMemberBegun};
 ghost use Rattle.shared_words.specs.Closing.{AreAllMembers};
 ghost use Rattle.area_tests.specs.Three.{AreThreeBegun, AreThree};
 
-use crate::written::Any;
+use crate::tables::Any;
 use shared_words::{Member, Shared};
 use std::alloc::Global;
 use term_core::NoMemory;
@@ -19,7 +19,7 @@ pub struct Three {
 }
 
 /// The last one of so many members and one more.
-#[tactic(auto, using(crate::proofs::Members::last_begun, crate::proofs::Members::rest_begun))]
+#[tactic(auto, using(new_tables::proofs::Begun::last_begun, new_tables::proofs::Begun::rest_begun))]
 fn take_last(shared: &Shared<Any>, members: &mut Vec<Member>, count: u32) -> Option<Member>
     requires begun { AreMembersBegun shared.now.table.shared.table_id (count + 1) members.old.items }
     ensures last { IfSome result (λ token. IsMemberBegun shared.now.table.shared.table_id count token) }

@@ -3,20 +3,21 @@
 //! so for each area, and again for those that were released before.
 
 ghost use Rattle.std.specs.Prelude.{◌≡◌, ◌+◌, ◌<◌, ◌≤◌, true, false};
-ghost use Rattle.shared_words.specs.Opening.{member_begun};
-ghost use Rattle.progress_words.specs.Tokens.{view_of, written_by, IsMemberOf, IsWriterOf};
+ghost use Rattle.shared_words.specs.Making.{IsMemberBegun};
+ghost use Rattle.progress_words.specs.Tokens.{written_by, IsMemberOf, IsWriterOf};
 ghost use Rattle.progress_words.specs.Needs.{HasTaken};
 ghost use Rattle.anchors.specs.Scans.{LooksMore};
+ghost use Rattle.new_tables.specs.Leading.{IsLeading};
 ghost use Rattle.area_tests.specs.Gone.{AreGone};
 ghost use Rattle.area_tests.specs.Several.{AreRetiring, AreClear, AreReleased};
-ghost use Rattle.area_tests.specs.Work.{IsHeading};
 
-use crate::released::{release_clear, take_need};
+use crate::leading::lead_on;
+use crate::released::{is_over, release_clear, take_need};
 use crate::several::{AREAS, area_of, publish_retired};
-use crate::written::Any;
+use crate::tables::Any;
 use anchors::{Scan, scan};
 use literal_areas::Pools;
-use progress_words::{Lead, advance, lead, reached, report};
+use progress_words::{Lead, lead};
 use shared_words::{Member, Shared, Writer};
 
 /// How often the writer tries, at most: far more often than the members make turns.
@@ -36,35 +37,6 @@ pub struct Written {
     pub late: u32,
 }
 
-/// The leader reports, and tries to raise the counter.
-#[tactic(auto, using(crate::proofs::Heading::heads_on))]
-fn lead_on(shared: &Shared<Any>, leader: &mut Member)
-    requires heads { IsHeading shared.now.table.shared.table_id leader.old }
-    ensures heads { IsHeading shared.now.table.shared.table_id leader.new }
-    ensures number { leader.new.number ≡ leader.old.number }
-{
-    report(shared, leader);
-    let _answer = advance(shared, leader);
-}
-
-/// Whether the value is reached.
-#[tactic(auto, using(crate::proofs::Gone::gone_counted, crate::proofs::Gone::taken_still))]
-fn is_over(shared: &Shared<Any>, writer: &mut Writer, pools: &Pools, need: u64) -> bool
-    requires token { IsWriterOf shared.now.table.shared.table_id shared.now.table.shared.key writer.old }
-    requires gone { AreGone 0 3 pools.now (written_by writer.old) }
-    requires taken { HasTaken (written_by writer.old) 2 need }
-    ensures token { IsWriterOf shared.now.table.shared.table_id shared.now.table.shared.key writer.new }
-    ensures gone { AreGone 0 3 pools.now (written_by writer.new) }
-    ensures taken { HasTaken (written_by writer.new) 2 need }
-    ensures enough { result ≡ true → need ≤ (written_by writer.new).counter }
-{
-    let _ = pools;
-    match reached(shared, writer, need) {
-        Ok(()) => true,
-        Err(_) => false,
-    }
-}
-
 /// Waits until the value is reached; the leader raises the counter.
 fn await_need(
     shared: &Shared<Any>,
@@ -76,16 +48,16 @@ fn await_need(
     requires token { IsWriterOf shared.now.table.shared.table_id shared.now.table.shared.key writer.old }
     requires gone { AreGone 0 3 pools.now (written_by writer.old) }
     requires taken { HasTaken (written_by writer.old) 2 need }
-    requires heads { IsHeading shared.now.table.shared.table_id leader.old }
+    requires leads { IsLeading shared.now.table.shared.table_id leader.old }
     ensures token { IsWriterOf shared.now.table.shared.table_id shared.now.table.shared.key writer.new }
     ensures gone { AreGone 0 3 pools.now (written_by writer.new) }
     ensures taken { HasTaken (written_by writer.new) 2 need }
     ensures enough { result ≡ true → need ≤ (written_by writer.new).counter }
-    ensures heads { IsHeading shared.now.table.shared.table_id leader.new }
+    ensures leads { IsLeading shared.now.table.shared.table_id leader.new }
     ensures number { leader.new.number ≡ leader.old.number }
 {
     for _ in 0..TRIES {
-        lead_on(shared, leader);
+        let _answer = lead_on(shared, leader);
         if is_over(shared, writer, pools, need) {
             return true;
         }
@@ -133,36 +105,19 @@ fn look_once(shared: &Shared<Any>, writer: &mut Writer, at: u32, count: u32) -> 
     }
 }
 
-/// One look for each of the first so many areas; answers for how many of them an anchor named it.
-#[tactic(auto, using(anchors::proofs::Scanning::none_more))]
-fn look_each(shared: &Shared<Any>, writer: &mut Writer, count: u32) -> u32
-    requires token { IsWriterOf shared.now.table.shared.table_id shared.now.table.shared.key writer.old }
-    requires few { count ≤ 3 }
-    requires clear { AreClear count (written_by writer.old) }
-    ensures token { IsWriterOf shared.now.table.shared.table_id shared.now.table.shared.key writer.new }
-    ensures more { LooksMore (written_by writer.old) (written_by writer.new) }
-    ensures few { result ≤ 3 }
-{
-    let mut late = 0;
-    for at in 0..count {
-        late += look_once(shared, writer, at, count);
-    }
-    late
-}
-
 /// Looks again and again for the first so many areas; answers how often an anchor named one.
 #[tactic(auto, using(anchors::proofs::Scanning::none_more))]
 fn look_again(shared: &Shared<Any>, writer: &mut Writer, count: u32) -> u32
     requires token { IsWriterOf shared.now.table.shared.table_id shared.now.table.shared.key writer.old }
-    requires few { count ≤ 3 }
+    requires few { (1 ≤ count) × (count ≤ 3) }
     requires clear { AreClear count (written_by writer.old) }
     ensures token { IsWriterOf shared.now.table.shared.table_id shared.now.table.shared.key writer.new }
     ensures more { LooksMore (written_by writer.old) (written_by writer.new) }
     ensures few { result ≤ 300 }
 {
     let mut late = 0;
-    for _ in 0..LOOKS {
-        late += look_each(shared, writer, count);
+    for look in 0..LOOKS * count {
+        late += look_once(shared, writer, look % count, count);
     }
     late
 }
@@ -199,8 +154,7 @@ pub fn write_all(
 ) -> Written
     requires token { IsWriterOf shared.now.table.shared.table_id shared.now.table.shared.key writer }
     requires retiring { AreRetiring 3 pools (written_by writer) }
-    requires leader { IsMemberOf shared.now.table.shared.table_id leader }
-    requires begun { view_of leader ≡ member_begun 2 }
+    requires leader { IsMemberBegun shared.now.table.shared.table_id 2 leader }
     ensures writer { IsWriterOf shared.now.table.shared.table_id shared.now.table.shared.key result.writer }
     ensures leader { IsMemberOf shared.now.table.shared.table_id result.leader }
     ensures number { result.leader.number ≡ leader.number }
@@ -218,7 +172,7 @@ pub fn write_all(
 }
 
 /// Waits, and releases one area after another. The leader gives up the lead.
-#[tactic(auto, using(crate::proofs::Heading::leader_may, crate::proofs::Heading::heads_first, crate::proofs::Looked::none_clear, crate::proofs::Looked::none_released))]
+#[tactic(auto, using(new_tables::proofs::Begun::of_begun, new_tables::proofs::Heading::leader_may, new_tables::proofs::Heading::leads_first, crate::proofs::Looked::none_clear, crate::proofs::Looked::none_released))]
 fn release_beside(
     shared: &Shared<Any>,
     writer: &mut Writer,
@@ -229,8 +183,7 @@ fn release_beside(
     requires token { IsWriterOf shared.now.table.shared.table_id shared.now.table.shared.key writer.old }
     requires gone { AreGone 0 3 pools.old (written_by writer.old) }
     requires taken { HasTaken (written_by writer.old) 2 need }
-    requires leader { IsMemberOf shared.now.table.shared.table_id leader.old }
-    requires begun { view_of leader.old ≡ member_begun 2 }
+    requires leader { IsMemberBegun shared.now.table.shared.table_id 2 leader.old }
     ensures writer { IsWriterOf shared.now.table.shared.table_id shared.now.table.shared.key writer.new }
     ensures leader { IsMemberOf shared.now.table.shared.table_id leader.new }
     ensures number { leader.new.number ≡ leader.old.number }

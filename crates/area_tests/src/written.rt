@@ -2,19 +2,16 @@
 //! of the table: the words of block 9 begin at 10,709 and those of block 64 at 67,029.
 
 ghost use Rattle.std.specs.Prelude.{◌+◌, ◌≤◌, ◌<◌, ◌^◌, length};
+ghost use Rattle.shared_words.specs.Making.{IsHanding};
 ghost use Rattle.progress_words.specs.Tokens.{written_by, IsWriterOf};
 ghost use Rattle.literal_areas.specs.Owned.{AreOf};
 
+use crate::tables::{Any, last_words};
 use literal_areas::{Pool, Pools, Take};
-use shared_words::{Parts, Served, Shared, Writer, close};
+use shared_words::{Shared, Writer};
+use std::alloc::Global;
 use std::test::Fail;
-
-/// Generations of which nothing is said.
-pub struct Any;
-
-impl Served for Any {
-    ghost served = { λ _. Unit {0} };
-}
+use term_core::{NoMemory, WordList};
 
 /// Takes an area of the pool, and stores these words into its block.
 #[tactic(auto, using(crate::proofs::Serials::next_after, crate::proofs::Serials::taken_live, crate::proofs::Begun::few_fit))]
@@ -38,29 +35,30 @@ fn write_next(
     }
 }
 
+/// Writes an area for an instance and one for a term.
+fn write_both(alloc: Global, shared: &Shared<Any>, writer: &mut Writer) -> Result<(), NoMemory>
+    requires token { IsWriterOf shared.now.table.shared.table_id shared.now.table.shared.key writer.old }
+    requires handing { IsHanding shared.now.table.shared.table_id shared.now.table.shared.key 1 writer.old.seat }
+    ensures { IsWriterOf shared.now.table.shared.table_id shared.now.table.shared.key writer.new }
+{
+    let mut pools = Pools::new(alloc)?;
+    write_next(shared, writer, &mut pools, Pool::Big, &[11, 12, 13]);
+    write_next(shared, writer, &mut pools, Pool::Small, &[21, 22]);
+    Ok(())
+}
+
+/// The words of a table in which they are written.
+fn written_words(alloc: Global) -> Result<WordList, NoMemory> {
+    let (shared, mut parts) = Shared::<Any>::new(alloc, 1, 0)?;
+    write_both(alloc, &shared, &mut parts.writer)?;
+    last_words(alloc, shared, parts)
+}
+
 /// An area for an instance and one for a term are written: their words stand in their blocks when the
 /// table is closed, and no others.
 #[test]
 fn areas_stand_in_their_blocks(rt: HostRuntime) -> Result<(), Fail> {
-    let (shared, parts) = Shared::<Any>::new(rt.alloc(), 1, 0)?;
-    let Parts {
-        mut writer,
-        members,
-        watchers,
-    } = parts;
-    let mut pools = Pools::new(rt.alloc())?;
-    write_next(&shared, &mut writer, &mut pools, Pool::Big, &[11, 12, 13]);
-    write_next(&shared, &mut writer, &mut pools, Pool::Small, &[21, 22]);
-    let closed = close(
-        rt.alloc(),
-        shared,
-        Parts {
-            writer,
-            members,
-            watchers,
-        },
-    )?;
-    let words = closed.words();
+    let words = written_words(rt.alloc())?;
     let cases = [
         (10_708, 0),
         (10_709, 11),

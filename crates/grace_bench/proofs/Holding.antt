@@ -32,8 +32,8 @@ use Rattle.shared_words.specs.Views.{published_at, newest_number}
 use Rattle.shared_words.proofs.OpeningRule.{last_get}
 use Rattle.progress_words.specs.Tokens.{view_of, written_by, IsMemberOf, IsSameMember}
 use Rattle.progress_words.specs.Reports.{IsAwake, HoldsReported}
-use Rattle.progress_tests.proofs.Begun.{empty_rests}
-use Rattle.progress_tests.proofs.Emptied.{no_element}
+use Rattle.new_tables.proofs.Begun.{empty_rests}
+use Rattle.new_tables.proofs.Emptied.{no_element}
 use Rattle.anchors.specs.Holds.{anchors_of, IsUnkilled, HasHeld}
 use Rattle.anchors.specs.Drops.{AnchorsStored, HasDropped}
 use Rattle.anchors.proofs.Stored.{hold_stored, run_still}

@@ -10,8 +10,8 @@ use Rattle.shared_words.specs.declared.view.MemberView.{MemberView}
 use Rattle.shared_words.specs.Making.{IsMemberBegun, AreMembersBegun}
 use Rattle.shared_words.proofs.OpeningRule.{last_get}
 use Rattle.progress_words.specs.Tokens.{view_of}
-use Rattle.progress_tests.specs.Running.{IsReady}
-use Rattle.progress_tests.proofs.Begun.{fresh_of, begun_may_lead}
+use Rattle.new_tables.specs.Running.{IsReady}
+use Rattle.new_tables.proofs.Begun.{fresh_of, begun_may_lead}
 
 begun_ready : (table : TableId) (k : ℕ) (token : tokens.Member) → k < MOST_MEMBERS → IsMemberBegun table k token → IsReady table token
 begun_ready table k token few begun =

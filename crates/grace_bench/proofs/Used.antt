@@ -16,8 +16,8 @@ use Rattle.area_core.proofs.Opened.{blocks_opened}
 use Rattle.shared_words.specs.declared.view.WriterView.{WriterView}
 use Rattle.shared_words.specs.Rule.{HasArea}
 use Rattle.shared_words.specs.Publishing.{MayPublish, IsRootOf, kept_next}
-use Rattle.progress_tests.specs.Running.{IsEmpty}
-use Rattle.progress_tests.proofs.Emptied.{never, no_element}
+use Rattle.new_tables.specs.Running.{IsEmpty}
+use Rattle.new_tables.proofs.Emptied.{never, no_element}
 use Rattle.grace_bench.specs.Used.{used_area, used_published}
 
 only : {X : Type 0} (x y : X) (k : ℕ) → slice_get (x ∷ []) k ≡ Some y → y ≡ x

@@ -10,7 +10,7 @@ use Rattle.shared_words.specs.Views.{newest_number}
 use Rattle.shared_words.proofs.ShownMembers.{still_at}
 use Rattle.progress_words.specs.Reports.{HoldsReported}
 use Rattle.progress_words.specs.Needs.{HasLoadedCounter, HasTaken}
-use Rattle.progress_tests.specs.Running.{IsEmpty}
+use Rattle.new_tables.specs.Running.{IsEmpty}
 use Rattle.grace_bench.specs.Waiting.{HasAsked, IsOver}
 
 -- ---- the writer

@@ -4,7 +4,7 @@ ghost use Rattle.std.specs.Prelude.{◌≡◌, ◌≤◌, ◌<◌, ◌+◌, ◌^
 ghost use Rattle.shared_words.specs.Views.{newest_number};
 ghost use Rattle.progress_words.specs.Tokens.{view_of, written_by, IsMemberOf, IsWriterOf};
 ghost use Rattle.progress_words.specs.Leads.{IsLeader};
-ghost use Rattle.progress_tests.specs.Running.{IsReady, IsEmpty};
+ghost use Rattle.new_tables.specs.Running.{IsReady, IsEmpty};
 ghost use Rattle.grace_bench.specs.Waiting.{HasAsked, IsOver};
 
 use crate::tables::{Any, publish};
@@ -33,7 +33,7 @@ const DONE: u64 = u64::MAX;
 
 /// Makes a table of so many readers, one of which leads, and waits for so many grace periods. Answers
 /// for how many it waited.
-#[tactic(auto, using(crate::proofs::Members::all_ready, progress_tests::proofs::Emptied::handing_empty, progress_tests::proofs::Emptied::handing_first))]
+#[tactic(auto, using(crate::proofs::Members::all_ready, new_tables::proofs::Emptied::handing_empty, new_tables::proofs::Emptied::handing_first))]
 pub fn wait_beside<R: Threads + Wait + Sync>(
     rt: &R,
     alloc: Global,
@@ -107,7 +107,7 @@ fn report_each<R: Threads + Wait + Sync>(
 }
 
 /// Reports until the writer is done.
-#[tactic(auto, using(progress_tests::proofs::Leading::reported_ready, progress_tests::proofs::Leading::ready_rests))]
+#[tactic(auto, using(new_tables::proofs::Leading::reported_ready, new_tables::proofs::Leading::ready_rests))]
 fn report_on<R: Wait>(rt: &R, shared: &Shared<Any>, member: &mut Member, state: &AtomicU64)
     requires ready { IsReady shared.now.table.shared.table_id member.old }
 {
@@ -120,7 +120,7 @@ fn report_on<R: Wait>(rt: &R, shared: &Shared<Any>, member: &mut Member, state: 
 }
 
 /// Takes the lead, and reports until the writer is done.
-#[tactic(auto, using(progress_tests::proofs::Leading::still_none))]
+#[tactic(auto, using(new_tables::proofs::Leading::still_none))]
 fn lead_on<R: Wait>(rt: &R, shared: &Shared<Any>, member: &mut Member, state: &AtomicU64)
     requires ready { IsReady shared.now.table.shared.table_id member.old }
 {

@@ -22,7 +22,7 @@ const USED: AreaRef = AreaRef {
 
 /// Makes a table of one member, whose first process names an instance and drops that so often. Answers
 /// how often it did.
-#[tactic(auto, using(crate::proofs::Holding::only_begun, crate::proofs::Holding::tells_now, progress_tests::proofs::Emptied::handing_empty, progress_tests::proofs::Emptied::handing_first))]
+#[tactic(auto, using(crate::proofs::Holding::only_begun, crate::proofs::Holding::tells_now, new_tables::proofs::Emptied::handing_empty, new_tables::proofs::Emptied::handing_first))]
 pub fn hold_alone(alloc: Global, times: u32) -> Result<u32, NoMemory> {
     let (shared, parts) = Shared::<Any>::new(alloc, 1, 0)?;
     let Parts {

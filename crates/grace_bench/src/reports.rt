@@ -1,6 +1,6 @@
 //! One member that reports, while nobody waits.
 
-ghost use Rattle.progress_tests.specs.Running.{IsReady};
+ghost use Rattle.new_tables.specs.Running.{IsReady};
 
 use crate::tables::Any;
 use progress_words::report;
@@ -26,7 +26,7 @@ pub fn report_alone(alloc: Global, times: u32) -> Result<u32, NoMemory> {
 }
 
 /// Reports so often.
-#[tactic(auto, using(progress_tests::proofs::Leading::reported_ready, progress_tests::proofs::Leading::ready_rests))]
+#[tactic(auto, using(new_tables::proofs::Leading::reported_ready, new_tables::proofs::Leading::ready_rests))]
 fn report_often(shared: &Shared<Any>, member: &mut Member, times: u32)
     requires ready { IsReady shared.now.table.shared.table_id member.old }
 {

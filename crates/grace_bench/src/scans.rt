@@ -4,7 +4,7 @@ ghost use Rattle.std.specs.Prelude.{◌≡◌};
 ghost use Rattle.marks.specs.declared.kept.LookKind.TheVariants as look;
 ghost use Rattle.shared_words.specs.Slots.{LookMayBegin};
 ghost use Rattle.progress_words.specs.Tokens.{written_by, IsWriterOf};
-ghost use Rattle.progress_tests.specs.Running.{IsReady, IsEmpty};
+ghost use Rattle.new_tables.specs.Running.{IsReady, IsEmpty};
 
 use crate::tables::{Any, publish_used};
 use crate::waits::wait_alone;
@@ -23,7 +23,7 @@ const DROPPED: AreaRef = AreaRef {
 
 /// Makes a table whose newest generation has dropped an area, waits until no thread reads the one
 /// before, and looks for the area so often. Answers how often it looked.
-#[tactic(auto, using(progress_tests::proofs::Emptied::handing_first))]
+#[tactic(auto, using(new_tables::proofs::Emptied::handing_first))]
 pub fn scan_alone<R: Wait>(rt: &R, alloc: Global, times: u32) -> Result<u32, NoMemory> {
     let (shared, parts) = Shared::<Any>::new(alloc, 1, 0)?;
     let Parts {
@@ -38,7 +38,7 @@ pub fn scan_alone<R: Wait>(rt: &R, alloc: Global, times: u32) -> Result<u32, NoM
 }
 
 /// Publishes that the area is dropped, waits, and looks so often.
-#[tactic(auto, using(progress_tests::proofs::Leading::still_none))]
+#[tactic(auto, using(new_tables::proofs::Leading::still_none))]
 fn scan_after<R: Wait>(
     rt: &R,
     shared: &Shared<Any>,

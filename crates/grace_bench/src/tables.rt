@@ -3,7 +3,7 @@
 ghost use Rattle.std.specs.Prelude.{◌≡◌, ◌+◌, ◌<◌, ◌^◌};
 ghost use Rattle.progress_words.specs.Tokens.{written_by, IsWriterOf};
 ghost use Rattle.shared_words.specs.Publishing.{with_next};
-ghost use Rattle.progress_tests.specs.Running.{IsEmpty};
+ghost use Rattle.new_tables.specs.Running.{IsEmpty};
 ghost use Rattle.grace_bench.specs.Used.{used_published};
 
 use shared_words::{Next, Served, Shared, Writer};
@@ -17,7 +17,7 @@ impl Served for Any {
 }
 
 /// Publishes the empty generation once more.
-#[tactic(auto, using(progress_tests::proofs::Emptied::may_publish_empty, progress_tests::proofs::Emptied::opening_root, progress_tests::proofs::Emptied::written_next, progress_tests::proofs::Emptied::still_empty))]
+#[tactic(auto, using(new_tables::proofs::Emptied::may_publish_empty, new_tables::proofs::Emptied::opening_root, new_tables::proofs::Emptied::written_next, new_tables::proofs::Emptied::still_empty))]
 pub fn publish(shared: &Shared<Any>, writer: &mut Writer)
     requires token { IsWriterOf shared.now.table.shared.table_id shared.now.table.shared.key writer.old }
     requires empty { IsEmpty (written_by writer.old) }

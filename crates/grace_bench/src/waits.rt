@@ -12,7 +12,7 @@ use shared_words::{Member, Shared, Writer};
 use std::sync::Wait;
 
 /// Reports, and raises the counter where all have reported. Answers its value then, or else 0.
-#[tactic(auto, using(crate::proofs::Waiting::still_none, progress_tests::proofs::Begun::empty_rests))]
+#[tactic(auto, using(crate::proofs::Waiting::still_none, new_tables::proofs::Begun::empty_rests))]
 pub fn advance_once(shared: &Shared<Any>, leader: &mut Member) -> u64
     requires token { IsMemberOf shared.now.table.shared.table_id leader.old }
     requires leads { IsLeader (view_of leader.old) }

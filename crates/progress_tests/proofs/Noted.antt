@@ -27,8 +27,8 @@ use Rattle.shared_words.specs.Notes.{MaySplitNote, note_begun, note_joined}
 use Rattle.shared_words.specs.Publishing.{with_next}
 use Rattle.progress_words.specs.Tokens.{view_of, written_by, IsMemberOf, IsNoteOf}
 use Rattle.progress_words.specs.Reports.{IsAwake}
-use Rattle.progress_tests.specs.Running.{IsEmpty}
-use Rattle.progress_tests.proofs.Begun.{empty_rests}
+use Rattle.new_tables.specs.Running.{IsEmpty}
+use Rattle.new_tables.proofs.Begun.{empty_rests}
 
 -- ---- the split
 

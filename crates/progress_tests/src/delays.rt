@@ -10,7 +10,9 @@ ghost use Rattle.progress_words.specs.Tokens.{view_of, watched_by, IsMemberOf, I
 use crate::published::publishing::Any;
 use progress_words::*;
 use shared_words::{Member, Parts, Shared, Watcher};
+use std::alloc::Global;
 use std::test::Fail;
+use term_core::NoMemory;
 
 /// The tokens of the one member and the one watcher of a table.
 fn both_tokens(
@@ -30,34 +32,68 @@ fn both_tokens(
     Some((member, watcher))
 }
 
-/// A delay that begins at the counter 1 stands in delay count 1. The advance to 2 looks at delay count 0,
-/// the one to 3 at delay count 1.
-#[test]
-#[tactic(auto, using(crate::proofs::Begun::begun_may_lead, crate::proofs::Begun::empty_rests))]
-fn a_watcher_delays_the_counter_once(rt: HostRuntime) -> Result<(), Fail> {
-    let (shared, parts) = Shared::<Any>::new(rt.alloc(), 1, 1)?;
+/// What each call answered, in the order of the calls.
+#[derive(Clone, Copy, Debug, PartialEq, Eq)]
+struct Seen {
+    generation: u64,
+    raised: Advance,
+    reported: u64,
+    delayed: Advance,
+    raised_again: Advance,
+}
+
+/// The member leads, while the watcher delays the counter and then resumes.
+#[tactic(auto, using(new_tables::proofs::Begun::begun_may_lead, new_tables::proofs::Begun::empty_rests))]
+fn delay_once(shared: &Shared<Any>, member: &mut Member, watcher: &mut Watcher) -> Option<Seen>
+    requires member { IsMemberOf shared.now.table.shared.table_id member.old }
+    requires view { view_of member.old ≡ member_begun 0 }
+    requires watcher { IsWatcherOf shared.now.table.shared.table_id watcher.old }
+    requires idle { IsIdle (watched_by watcher.old) }
+{
+    let Lead::Led = lead(shared, member) else {
+        return None;
+    };
+    let generation = delay(shared, watcher);
+    let raised = advance(shared, member);
+    let reported = report(shared, member);
+    let delayed = advance(shared, member);
+    resume(shared, watcher);
+    let raised_again = advance(shared, member);
+    Some(Seen {
+        generation,
+        raised,
+        reported,
+        delayed,
+        raised_again,
+    })
+}
+
+/// The same on a new table.
+fn delay_new(alloc: Global) -> Result<Option<Seen>, NoMemory> {
+    let (shared, parts) = Shared::<Any>::new(alloc, 1, 1)?;
     let Parts {
         writer: _,
         members,
         watchers,
     } = parts;
     let Some((mut member, mut watcher)) = both_tokens(&shared, members, watchers) else {
-        assert!(rt; false, "there are a member and a watcher");
-        return Ok(());
+        return Ok(None);
     };
-    let answer = lead(&shared, &mut member);
-    assert_eq!(rt; answer, Lead::Led);
-    let Lead::Led = answer else {
-        return Ok(());
+    Ok(delay_once(&shared, &mut member, &mut watcher))
+}
+
+/// A delay that begins at the counter 1 stands in delay count 1. The advance to 2 looks at delay count 0,
+/// the one to 3 at delay count 1.
+#[test]
+fn a_watcher_delays_the_counter_once(rt: HostRuntime) -> Result<(), Fail> {
+    let seen = delay_new(rt.alloc())?;
+    let wanted = Seen {
+        generation: 0,
+        raised: Advance::Advanced(2),
+        reported: 0,
+        delayed: Advance::Delayed { count: 1 },
+        raised_again: Advance::Advanced(3),
     };
-    assert_eq!(rt; delay(&shared, &mut watcher), 0);
-    assert_eq!(rt; advance(&shared, &mut member), Advance::Advanced(2));
-    assert_eq!(rt; report(&shared, &mut member), 0);
-    assert_eq!(rt;
-        advance(&shared, &mut member),
-        Advance::Delayed { count: 1 }
-    );
-    resume(&shared, &mut watcher);
-    assert_eq!(rt; advance(&shared, &mut member), Advance::Advanced(3));
+    assert_eq!(rt; seen, Some(wanted));
     Ok(())
 }

@@ -7,7 +7,6 @@ use steps::*;
 
 #[test]
 fn members_load_the_counter_and_the_root_and_confirm(rt: HostRuntime) {
-    let mut state = with_code(rt.alloc()).expect(&rt, "a state");
     let events = [
         (counter(SeatName::Writer), true),
         (counter(SeatName::Member(2)), false),
@@ -21,35 +20,33 @@ fn members_load_the_counter_and_the_root_and_confirm(rt: HostRuntime) {
         (confirm(2, 2), false),
         (confirm(0, 2), true),
     ];
-    assert!(rt; first_untold(&mut state, &events) == None);
+    assert!(rt; follows(rt.alloc(), &events));
 }
 
 #[test]
 fn a_leader_raises_the_counter(rt: HostRuntime) {
-    let mut state = with_code(rt.alloc()).expect(&rt, "a state");
     let events = [
-        (AreaEvent::DropLead { member: 1 }, false),
-        (AreaEvent::TakeLead { member: 2 }, false),
-        (AreaEvent::TakeLead { member: 1 }, true),
-        (AreaEvent::TakeLead { member: 0 }, false),
+        (Step::DropLead(1), false),
+        (Step::TakeLead(2), false),
+        (Step::TakeLead(1), true),
+        (Step::TakeLead(0), false),
         (confirmed(0, 1), false),
         (confirmed(1, 2), false),
         (confirmed(1, 0), true),
         (confirmed(1, 1), true),
-        (AreaEvent::StoreCounter { member: 1 }, false),
+        (Step::StoreCounter(1), false),
         (delay(1, 1), false),
         (delay(0, 0), false),
         (delay(1, 0), true),
-        (AreaEvent::StoreCounter { member: 0 }, false),
-        (AreaEvent::StoreCounter { member: 1 }, true),
-        (AreaEvent::DropLead { member: 1 }, true),
+        (Step::StoreCounter(0), false),
+        (Step::StoreCounter(1), true),
+        (Step::DropLead(1), true),
     ];
-    assert!(rt; first_untold(&mut state, &events) == None);
+    assert!(rt; follows(rt.alloc(), &events));
 }
 
 #[test]
 fn a_seat_loads_what_its_generation_reads(rt: HostRuntime) {
-    let mut state = with_code(rt.alloc()).expect(&rt, "a state");
     let events = [
         (load(SeatName::Writer, INSTANCE), true),
         (load(READER, INSTANCE), false),
@@ -63,12 +60,11 @@ fn a_seat_loads_what_its_generation_reads(rt: HostRuntime) {
         (load(READER, TERM), false),
         (load(READER, PAST), false),
     ];
-    assert!(rt; first_untold(&mut state, &events) == None);
+    assert!(rt; follows(rt.alloc(), &events));
 }
 
 #[test]
 fn words_that_are_read_are_not_stored(rt: HostRuntime) {
-    let mut state = with_code(rt.alloc()).expect(&rt, "a state");
     let unread = 1493 + 2048;
     let events = [
         (store(unread, 7), true),
@@ -80,12 +76,11 @@ fn words_that_are_read_are_not_stored(rt: HostRuntime) {
         (store(21, 0), false),
         (store(PAST, 0), false),
     ];
-    assert!(rt; first_untold(&mut state, &events) == None);
+    assert!(rt; follows(rt.alloc(), &events));
 }
 
 #[test]
 fn retire_and_doom_words_tell_of_what_is_read(rt: HostRuntime) {
-    let mut state = with_code(rt.alloc()).expect(&rt, "a state");
     let events = [
         (store(RETIRE, 1), false),
         (store(RETIRE, 2), true),
@@ -93,12 +88,11 @@ fn retire_and_doom_words_tell_of_what_is_read(rt: HostRuntime) {
         (store(DOOM, 2), true),
         (store(RETIRE, 0), true),
     ];
-    assert!(rt; first_untold(&mut state, &events) == None);
+    assert!(rt; follows(rt.alloc(), &events));
 }
 
 #[test]
 fn a_slot_newly_names_what_its_process_reaches(rt: HostRuntime) {
-    let mut state = with_code(rt.alloc()).expect(&rt, "a state");
     let events = [
         // Member 0 does not read the instance yet.
         (slot(2, 1, 5), false),
@@ -119,37 +113,34 @@ fn a_slot_newly_names_what_its_process_reaches(rt: HostRuntime) {
         (look(2, 17), false),
         (look(64, 0), false),
     ];
-    assert!(rt; first_untold(&mut state, &events) == None);
+    assert!(rt; follows(rt.alloc(), &events));
 }
 
 #[test]
 fn notes_go_to_processes_and_members(rt: HostRuntime) {
-    let mut state = with_code(rt.alloc()).expect(&rt, "a state");
     let events = [
-        (AreaEvent::SplitNote { process: 63 }, true),
-        (AreaEvent::SplitNote { process: 64 }, false),
-        (AreaEvent::JoinNote { member: 1 }, true),
-        (AreaEvent::JoinNote { member: 2 }, false),
+        (Step::SplitNote(63), true),
+        (Step::SplitNote(64), false),
+        (Step::JoinNote(1), true),
+        (Step::JoinNote(2), false),
     ];
-    assert!(rt; first_untold(&mut state, &events) == None);
+    assert!(rt; follows(rt.alloc(), &events));
 }
 
 #[test]
 fn members_wait_and_enter(rt: HostRuntime) {
-    let mut state = with_code(rt.alloc()).expect(&rt, "a state");
     let events = [
-        (AreaEvent::StoreEntering { member: 1 }, false),
-        (AreaEvent::StoreWaiting { member: 1 }, true),
-        (AreaEvent::StoreWaiting { member: 1 }, false),
-        (AreaEvent::StoreEntering { member: 1 }, true),
-        (AreaEvent::StoreWaiting { member: 2 }, false),
+        (Step::StoreEntering(1), false),
+        (Step::StoreWaiting(1), true),
+        (Step::StoreWaiting(1), false),
+        (Step::StoreEntering(1), true),
+        (Step::StoreWaiting(2), false),
     ];
-    assert!(rt; first_untold(&mut state, &events) == None);
+    assert!(rt; follows(rt.alloc(), &events));
 }
 
 #[test]
 fn a_watcher_delays_the_counter(rt: HostRuntime) {
-    let mut state = with_code(rt.alloc()).expect(&rt, "a state");
     let watcher = SeatName::Watcher(0);
     let events = [
         (newest(SeatName::Watcher(1)), false),
@@ -162,44 +153,32 @@ fn a_watcher_delays_the_counter(rt: HostRuntime) {
         (counter(watcher), true),
         (subtract(0, 1), true),
     ];
-    assert!(rt; first_untold(&mut state, &events) == None);
+    assert!(rt; follows(rt.alloc(), &events));
 }
 
 #[test]
 fn a_root_stands_for_its_generation(rt: HostRuntime) {
-    let alloc = rt.alloc();
-    let mut state = with_code(alloc).expect(&rt, "a state");
     let events = [
         // Code index 0 does not lead to the instance.
-        (
-            root_in(alloc, 9, 0, 0, false).expect(&rt, "an event"),
-            false,
-        ),
+        (root_in(9, 0, 0, false), false),
         // No word tells that the function is traced.
-        (root(alloc, 0, true).expect(&rt, "an event"), false),
+        (root(0, true), false),
         // There is no third breakpoint index.
-        (root(alloc, 2, false).expect(&rt, "an event"), false),
-        (root(alloc, 1, false).expect(&rt, "an event"), true),
+        (root(2, false), false),
+        (root(1, false), true),
     ];
-    assert!(rt; first_untold(&mut state, &events) == None);
+    assert!(rt; follows(rt.alloc(), &events));
 }
 
 #[test]
 fn an_instance_stands_in_a_block_for_instances(rt: HostRuntime) {
-    let alloc = rt.alloc();
     // Its image stands in block 64, to which the code index leads.
-    let mut state = staged(alloc, TERM, 1 + 64 * 16).expect(&rt, "a state");
-    let events = [(
-        root_in(alloc, 64, 1, 0, false).expect(&rt, "an event"),
-        false,
-    )];
-    assert!(rt; first_untold(&mut state, &events) == None);
+    let events = [(root_in(64, 1, 0, false), false)];
+    assert!(rt; follows_staged(rt.alloc(), &events));
 }
 
 #[test]
 fn a_function_is_patched_by_phases(rt: HostRuntime) {
-    let alloc = rt.alloc();
-    let mut state = with_code(alloc).expect(&rt, "a state");
     // The word of the function in breakpoint index 1, which is staged, and in the active one.
     let decision = 1493 + 4 * 1024;
     let active = 1493 + 3 * 1024;
@@ -207,29 +186,27 @@ fn a_function_is_patched_by_phases(rt: HostRuntime) {
         (store(active, 1), false),
         (store(decision, 1), true),
         // Too early: a member that reads the new generation would not ask for the decision.
-        (root(alloc, 1, true).expect(&rt, "an event"), false),
+        (root(1, true), false),
         // There is no function 1.
         (entry(1, true), false),
         (entry(0, true), true),
-        (root(alloc, 1, true).expect(&rt, "an event"), true),
+        (root(1, true), true),
     ];
-    assert!(rt; first_untold(&mut state, &events) == None);
+    assert!(rt; follows(rt.alloc(), &events));
 }
 
 #[test]
 fn bad_patch(rt: HostRuntime) {
-    let alloc = rt.alloc();
-    let mut state = with_code(alloc).expect(&rt, "a state");
     let decision = 1493 + 4 * 1024;
     let events = [
         (store(decision, 1), true),
         (entry(0, true), true),
-        (root(alloc, 1, true).expect(&rt, "an event"), true),
+        (root(1, true), true),
         (counter(READER), true),
         (newest(READER), true),
         // The newest generation traces the function.
         (entry(0, false), false),
-        (root(alloc, 0, false).expect(&rt, "an event"), true),
+        (root(0, false), true),
         // Too early: member 0 still reads the generation before.
         (entry(0, false), false),
         (store(decision, 0), false),
@@ -238,5 +215,5 @@ fn bad_patch(rt: HostRuntime) {
         (entry(0, false), true),
         (store(decision, 0), true),
     ];
-    assert!(rt; first_untold(&mut state, &events) == None);
+    assert!(rt; follows(rt.alloc(), &events));
 }

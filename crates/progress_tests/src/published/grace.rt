@@ -10,7 +10,7 @@ ghost use Rattle.shared_words.specs.Making.{AreMembersBegun, IsHanding};
 ghost use Rattle.shared_words.specs.Closing.{AreAllMembers};
 ghost use Rattle.progress_words.specs.Tokens.{view_of, written_by, IsMemberOf, IsWriterOf};
 ghost use Rattle.progress_words.specs.Leads.{IsLeader};
-ghost use Rattle.progress_tests.specs.Running.{IsEmpty, IsReady, HasReported};
+ghost use Rattle.new_tables.specs.Running.{IsEmpty, IsReady, HasReported};
 
 use super::publishing::{Any, publish};
 use progress_words::*;
@@ -40,7 +40,7 @@ struct Tally {
 }
 
 /// Tries to raise the counter once, and gives up the lead.
-#[tactic(auto, using(crate::proofs::Leading::given_ready))]
+#[tactic(auto, using(new_tables::proofs::Leading::given_ready))]
 fn raise_once(shared: &Shared<Any>, member: &mut Member) -> bool
     requires token { IsMemberOf shared.now.table.shared.table_id member.old }
     requires leads { IsLeader (view_of member.old) }
@@ -53,7 +53,7 @@ fn raise_once(shared: &Shared<Any>, member: &mut Member) -> bool
 }
 
 /// Tries to raise the counter where nobody else leads.
-#[tactic(auto, using(crate::proofs::Leading::led_ready, crate::proofs::Leading::held_ready, crate::proofs::Leading::still_none))]
+#[tactic(auto, using(new_tables::proofs::Leading::led_ready, new_tables::proofs::Leading::held_ready, new_tables::proofs::Leading::still_none))]
 fn raise(shared: &Shared<Any>, member: &mut Member) -> bool
     requires ready { IsReady shared.now.table.shared.table_id member.old }
     ensures { HasReported shared.now.table.shared.table_id member.old member.new }
@@ -65,7 +65,7 @@ fn raise(shared: &Shared<Any>, member: &mut Member) -> bool
 }
 
 /// Reports, and then tries to raise the counter.
-#[tactic(auto, using(crate::proofs::Leading::reported_ready, crate::proofs::Leading::led_ready))]
+#[tactic(auto, using(new_tables::proofs::Leading::reported_ready, new_tables::proofs::Leading::led_ready))]
 fn report_once(shared: &Shared<Any>, member: &mut Member, tally: &Tally) -> u64
     requires ready { IsReady shared.now.table.shared.table_id member.old }
     ensures { HasReported shared.now.table.shared.table_id member.old member.new }
@@ -78,7 +78,7 @@ fn report_once(shared: &Shared<Any>, member: &mut Member, tally: &Tally) -> u64
 }
 
 /// Reports again and again, and counts the falls from a generation to an earlier one.
-#[tactic(auto, using(crate::proofs::Leading::reported_none, crate::proofs::Leading::reported_more))]
+#[tactic(auto, using(new_tables::proofs::Leading::reported_none, new_tables::proofs::Leading::reported_more))]
 fn report_often(shared: &Shared<Any>, member: &mut Member, tally: &Tally)
     requires ready { IsReady shared.now.table.shared.table_id member.old }
     ensures { HasReported shared.now.table.shared.table_id member.old member.new }
@@ -168,7 +168,7 @@ fn run_beside<R: Threads + Sync>(
 }
 
 /// Runs all threads to their ends, and closes the table.
-#[tactic(auto, using(crate::proofs::Emptied::handing_empty, crate::proofs::Emptied::handing_first, crate::proofs::Leading::begun_as, shared_words::proofs::WatchersTaken::none_are_watchers))]
+#[tactic(auto, using(new_tables::proofs::Emptied::handing_empty, new_tables::proofs::Emptied::handing_first, new_tables::proofs::Leading::begun_as, shared_words::proofs::WatchersTaken::none_are_watchers))]
 fn run_to_end<R: Threads + Sync>(
     rt: &R,
     alloc: Global,

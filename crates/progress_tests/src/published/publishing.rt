@@ -4,7 +4,7 @@ ghost use Rattle.std.specs.Prelude.{◌≡◌, ◌+◌, ◌<◌, ◌^◌};
 ghost use Rattle.area_core.specs.Step.{opening_published};
 ghost use Rattle.shared_words.specs.Publishing.{with_next};
 ghost use Rattle.progress_words.specs.Tokens.{written_by, IsWriterOf};
-ghost use Rattle.progress_tests.specs.Running.{IsEmpty};
+ghost use Rattle.new_tables.specs.Running.{IsEmpty};
 
 use shared_words::{Served, Shared, Writer};
 use std::marker::Brand;
@@ -17,7 +17,7 @@ impl Served for Any {
 }
 
 /// Publishes the empty generation once more, over the blocks that it had before.
-#[tactic(auto, using(crate::proofs::Emptied::may_publish_empty, crate::proofs::Emptied::opening_root, crate::proofs::Emptied::written_next, crate::proofs::Emptied::still_empty))]
+#[tactic(auto, using(new_tables::proofs::Emptied::may_publish_empty, new_tables::proofs::Emptied::opening_root, new_tables::proofs::Emptied::written_next, new_tables::proofs::Emptied::still_empty))]
 pub fn publish(shared: &Shared<Any>, writer: &mut Writer)
     requires token { IsWriterOf shared.now.table.shared.table_id shared.now.table.shared.key writer.old }
     requires empty { IsEmpty (written_by writer.old) }

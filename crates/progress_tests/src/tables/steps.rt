@@ -44,50 +44,114 @@ fn area(block: u32) -> AreaRef {
 
 // ---- events
 
-pub fn store(word: u32, value: u64) -> AreaEvent {
-    AreaEvent::StoreWord { word, value }
+/// An event in plain values.
+#[derive(Clone, Copy)]
+pub enum Step {
+    LoadCounter(SeatName),
+    LoadRoot(SeatName),
+    Confirm {
+        member: u32,
+        value: u64,
+    },
+    LoadConfirmed {
+        member: u32,
+        other: u32,
+    },
+    StoreCounter(u32),
+    TakeLead(u32),
+    DropLead(u32),
+    LoadDelay {
+        member: u32,
+        which: u32,
+    },
+    AddDelay {
+        watcher: u32,
+        which: u32,
+    },
+    SubDelay {
+        watcher: u32,
+        which: u32,
+    },
+    LoadWord {
+        seat: SeatName,
+        word: u32,
+    },
+    StoreWord {
+        word: u32,
+        value: u64,
+    },
+    StoreSlot {
+        process: u32,
+        place: u32,
+        value: u64,
+    },
+    LoadSlot {
+        process: u32,
+        place: u32,
+    },
+    SplitNote(u32),
+    JoinNote(u32),
+    StoreWaiting(u32),
+    StoreEntering(u32),
+    StoreEntry {
+        function: u32,
+        on: bool,
+    },
+    StoreRoot(NextRoot),
 }
 
-pub fn load(seat: SeatName, word: u32) -> AreaEvent {
-    AreaEvent::LoadWord { seat, word }
+/// What a store of the root publishes: the instance in a block, over these indices, with its function traced or not.
+#[derive(Clone, Copy)]
+pub struct NextRoot {
+    block: u32,
+    code: u32,
+    bp: u32,
+    traced: bool,
+}
+
+pub fn store(word: u32, value: u64) -> Step {
+    Step::StoreWord { word, value }
+}
+
+pub fn load(seat: SeatName, word: u32) -> Step {
+    Step::LoadWord { seat, word }
 }
 
 /// A load of the counter.
-pub fn counter(seat: SeatName) -> AreaEvent {
-    AreaEvent::LoadCounter { seat }
+pub fn counter(seat: SeatName) -> Step {
+    Step::LoadCounter(seat)
 }
 
 /// A load of the root.
-pub fn newest(seat: SeatName) -> AreaEvent {
-    AreaEvent::LoadRoot { seat }
+pub fn newest(seat: SeatName) -> Step {
+    Step::LoadRoot(seat)
 }
 
-pub fn confirm(member: u32, value: u64) -> AreaEvent {
-    AreaEvent::Confirm { member, value }
+pub fn confirm(member: u32, value: u64) -> Step {
+    Step::Confirm { member, value }
 }
 
 /// A load of what another member has confirmed.
-pub fn confirmed(member: u32, other: u32) -> AreaEvent {
-    AreaEvent::LoadConfirmed { member, other }
+pub fn confirmed(member: u32, other: u32) -> Step {
+    Step::LoadConfirmed { member, other }
 }
 
 /// A load of a delay count by the leader.
-pub fn delay(member: u32, which: u32) -> AreaEvent {
-    AreaEvent::LoadDelay { member, which }
+pub fn delay(member: u32, which: u32) -> Step {
+    Step::LoadDelay { member, which }
 }
 
-pub fn add(watcher: u32, which: u32) -> AreaEvent {
-    AreaEvent::AddDelay { watcher, which }
+pub fn add(watcher: u32, which: u32) -> Step {
+    Step::AddDelay { watcher, which }
 }
 
-pub fn subtract(watcher: u32, which: u32) -> AreaEvent {
-    AreaEvent::SubDelay { watcher, which }
+pub fn subtract(watcher: u32, which: u32) -> Step {
+    Step::SubDelay { watcher, which }
 }
 
 /// A store into a slot by member 0.
-pub fn slot(process: u32, place: u32, value: u64) -> AreaEvent {
-    AreaEvent::StoreSlot {
-        member: 0,
+pub fn slot(process: u32, place: u32, value: u64) -> Step {
+    Step::StoreSlot {
         process,
         place,
         value,
@@ -95,17 +159,28 @@ pub fn slot(process: u32, place: u32, value: u64) -> AreaEvent {
 }
 
 /// A load of a word of a slot.
-pub fn look(process: u32, place: u32) -> AreaEvent {
-    AreaEvent::LoadSlot { process, place }
+pub fn look(process: u32, place: u32) -> Step {
+    Step::LoadSlot { process, place }
 }
 
 /// A store of the entry word of a function of the instance.
-pub fn entry(function: u32, on: bool) -> AreaEvent {
-    let at = CodeRef {
-        area: area(9),
-        function,
-    };
-    AreaEvent::StoreEntry { at, on }
+pub fn entry(function: u32, on: bool) -> Step {
+    Step::StoreEntry { function, on }
+}
+
+/// The store of the root that publishes this over these indices, with the instance in a block.
+pub fn root_in(block: u32, code: u32, bp: u32, traced: bool) -> Step {
+    Step::StoreRoot(NextRoot {
+        block,
+        code,
+        bp,
+        traced,
+    })
+}
+
+/// The same over code index 1, with the instance in block 9.
+pub fn root(bp: u32, traced: bool) -> Step {
+    root_in(9, 1, bp, traced)
 }
 
 /// A generation with the instance as current code, whose function is traced or not.
@@ -129,76 +204,134 @@ fn loaded(alloc: Global, traced: bool) -> Result<Generation, NoMemory> {
     })
 }
 
-/// The store of the root that publishes this over these indices, with the instance in a block.
-pub fn root_in(
-    alloc: Global,
-    block: u32,
-    code: u32,
-    bp: u32,
-    traced: bool,
-) -> Result<AreaEvent, NoMemory> {
+fn publication(alloc: Global, root: NextRoot) -> Result<AreaEvent, NoMemory> {
     Ok(AreaEvent::StoreRoot {
-        code,
-        bp,
+        code: root.code,
+        bp: root.bp,
         term: 0,
-        next: loaded(alloc, traced)?,
-        areas: AreaRefList::from_slice(alloc, &[area(block)])?,
+        next: loaded(alloc, root.traced)?,
+        areas: AreaRefList::from_slice(alloc, &[area(root.block)])?,
     })
 }
 
-/// The same over code index 1, with the instance in block 9.
-pub fn root(alloc: Global, bp: u32, traced: bool) -> Result<AreaEvent, NoMemory> {
-    root_in(alloc, 9, 1, bp, traced)
+/// The event of a step.
+fn event_of(alloc: Global, step: Step) -> Result<AreaEvent, NoMemory> {
+    let event = match step {
+        Step::LoadCounter(seat) => AreaEvent::LoadCounter { seat },
+        Step::LoadRoot(seat) => AreaEvent::LoadRoot { seat },
+        Step::Confirm { member, value } => AreaEvent::Confirm { member, value },
+        Step::LoadConfirmed { member, other } => AreaEvent::LoadConfirmed { member, other },
+        Step::StoreCounter(member) => AreaEvent::StoreCounter { member },
+        Step::TakeLead(member) => AreaEvent::TakeLead { member },
+        Step::DropLead(member) => AreaEvent::DropLead { member },
+        Step::LoadDelay { member, which } => AreaEvent::LoadDelay { member, which },
+        Step::AddDelay { watcher, which } => AreaEvent::AddDelay { watcher, which },
+        Step::SubDelay { watcher, which } => AreaEvent::SubDelay { watcher, which },
+        Step::LoadWord { seat, word } => AreaEvent::LoadWord { seat, word },
+        Step::StoreWord { word, value } => AreaEvent::StoreWord { word, value },
+        Step::StoreSlot {
+            process,
+            place,
+            value,
+        } => AreaEvent::StoreSlot {
+            member: 0,
+            process,
+            place,
+            value,
+        },
+        Step::LoadSlot { process, place } => AreaEvent::LoadSlot { process, place },
+        Step::SplitNote(process) => AreaEvent::SplitNote { process },
+        Step::JoinNote(member) => AreaEvent::JoinNote { member },
+        Step::StoreWaiting(member) => AreaEvent::StoreWaiting { member },
+        Step::StoreEntering(member) => AreaEvent::StoreEntering { member },
+        Step::StoreEntry { function, on } => {
+            let at = CodeRef {
+                area: area(9),
+                function,
+            };
+            AreaEvent::StoreEntry { at, on }
+        }
+        Step::StoreRoot(root) => return publication(alloc, root),
+    };
+    Ok(event)
 }
 
 // ---- states
 
-/// A state of two members and a watcher whose words stand for the instance in the block of this first
-/// word, to which code index 1 leads by this word.
-pub fn staged(alloc: Global, first: u32, leads: u64) -> Result<AreaState, StepFault> {
-    let mut state = match AreaState::new(alloc, 2, 1) {
-        Ok(state) => state,
-        Err(_) => return Err(StepFault::NoMemory),
-    };
-    for at in 0..16 {
-        store_word(&mut state, first.saturating_add(at), IMAGE[at as usize])?;
-    }
-    store_word(&mut state, EXPORT, leads)?;
-    Ok(state)
-}
-
-/// The state in which generation 1 has the instance as current code, in block 9.
-pub fn with_code(alloc: Global) -> Result<AreaState, StepFault> {
-    let mut state = staged(alloc, INSTANCE, 1 + 9 * 16)?;
-    make(&mut state, root(alloc, 0, false))?;
-    Ok(state)
-}
-
-/// Stores a word.
-fn store_word(state: &mut AreaState, word: u32, value: u64) -> Result<(), StepFault> {
-    area_step(state, &AreaEvent::StoreWord { word, value })
-}
-
-/// Makes an event that took memory.
-fn make(state: &mut AreaState, event: Result<AreaEvent, NoMemory>) -> Result<(), StepFault> {
-    match event {
-        Err(_) => Err(StepFault::NoMemory),
+/// Makes one event.
+fn make(state: &mut AreaState, alloc: Global, step: Step) -> Result<(), StepFault> {
+    match event_of(alloc, step) {
         Ok(event) => area_step(state, &event),
+        Err(_) => Err(StepFault::NoMemory),
     }
 }
 
-/// Makes the events in turn; answers the place of the first that is enabled and should not be, or is
-/// not and should.
-pub fn first_untold(state: &mut AreaState, events: &[(AreaEvent, bool)]) -> Option<usize> {
-    for (place, (event, enabled)) in events.iter().enumerate() {
+/// Makes the words stand for the instance in the block of this first word, to which code index 1 leads by this
+/// word.
+fn stage(state: &mut AreaState, alloc: Global, first: u32, leads: u64) -> Result<(), StepFault> {
+    for at in 0..16 {
+        make(
+            state,
+            alloc,
+            store(first.saturating_add(at), IMAGE[at as usize]),
+        )?;
+    }
+    make(state, alloc, store(EXPORT, leads))
+}
+
+/// Makes generation 1, which has the instance as current code in block 9.
+fn publish_code(state: &mut AreaState, alloc: Global) -> Result<(), StepFault> {
+    stage(state, alloc, INSTANCE, 1 + 9 * 16)?;
+    make(state, alloc, root(0, false))
+}
+
+/// Makes the steps in turn; answers the place of the first that is enabled and should not be, or is not and
+/// should.
+fn first_untold(state: &mut AreaState, alloc: Global, steps: &[(Step, bool)]) -> Option<usize> {
+    for (place, (step, enabled)) in steps.iter().enumerate() {
         let wanted = if *enabled {
             Ok(())
         } else {
             Err(StepFault::NotEnabled)
         };
-        if area_step(state, event) != wanted {
+        if make(state, alloc, *step) != wanted {
             return Some(place);
         }
     }
     None
+}
+
+fn follow_code(
+    state: &mut AreaState,
+    alloc: Global,
+    steps: &[(Step, bool)],
+) -> Result<Option<usize>, StepFault> {
+    publish_code(state, alloc)?;
+    Ok(first_untold(state, alloc, steps))
+}
+
+fn follow_staged(
+    state: &mut AreaState,
+    alloc: Global,
+    steps: &[(Step, bool)],
+) -> Result<Option<usize>, StepFault> {
+    stage(state, alloc, TERM, 1 + 64 * 16)?;
+    Ok(first_untold(state, alloc, steps))
+}
+
+/// Whether each step of two members and a watcher is as told, behind the generation in which the instance is
+/// current.
+pub fn follows(alloc: Global, steps: &[(Step, bool)]) -> bool {
+    match AreaState::new(alloc, 2, 1) {
+        Ok(mut state) => follow_code(&mut state, alloc, steps) == Ok(None),
+        Err(_) => false,
+    }
+}
+
+/// The same where the words stand for the instance in block 64, to which the code index leads.
+pub fn follows_staged(alloc: Global, steps: &[(Step, bool)]) -> bool {
+    match AreaState::new(alloc, 2, 1) {
+        Ok(mut state) => follow_staged(&mut state, alloc, steps) == Ok(None),
+        Err(_) => false,
+    }
 }

@@ -1,4 +1,4 @@
-use Rattle.area_tests.proofs.Playing.{dropped_goes}
+use Rattle.area_tests.proofs.Work.{dropped_goes}
 use Rattle.area_tests.proofs.players.try_drop.Goals as goal
 
 -- the process goes on

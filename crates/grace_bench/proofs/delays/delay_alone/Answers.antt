@@ -1,5 +1,5 @@
 -- The one watcher does not delay as it begins.
-use Rattle.progress_tests.proofs.Begun.{only_watcher}
+use Rattle.new_tables.proofs.Begun.{only_watcher}
 use Rattle.grace_bench.proofs.delays.delay_alone.Goals as goal
 
 pub delay_often-requires-clause-token : goal.delay_often-requires-clause-token

@@ -1,5 +1,5 @@
 -- No turn of a member that is ready is under way.
-use Rattle.progress_tests.proofs.Leading.{ready_rests}
+use Rattle.new_tables.proofs.Leading.{ready_rests}
 use Rattle.grace_bench.proofs.grace.report_on.Goals as goal
 
 pub report-requires-clause-rest : goal.report-requires-clause-rest

@@ -1,6 +1,6 @@
 -- All members are ready to report, and the empty generation alone is published.
 use Rattle.std.proofs.Common.{arith}
-use Rattle.progress_tests.proofs.Emptied.{handing_empty}
+use Rattle.new_tables.proofs.Emptied.{handing_empty}
 use Rattle.grace_bench.proofs.Members.{all_ready}
 use Rattle.grace_bench.proofs.grace.wait_beside.Goals as goal
 

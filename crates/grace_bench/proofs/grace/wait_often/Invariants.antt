@@ -1,7 +1,7 @@
 -- So many generations were published, each of them empty.
 use Rattle.std.proofs.Common.{◌≡◌}
 use Rattle.progress_words.specs.Tokens.{written_by, IsWriterOf}
-use Rattle.progress_tests.specs.Running.{IsEmpty}
+use Rattle.new_tables.specs.Running.{IsEmpty}
 use Rattle.grace_bench.proofs.grace.wait_often.Given as goal
 
 abbrev pub invariant-loop : goal.invariant-loop

@@ -2,7 +2,7 @@
 use Rattle.std.proofs.Common.{refl, ap, arith}
 use Rattle.shared_words.specs.Seats.{member_of}
 use Rattle.progress_words.specs.Tokens.{view_of, noted_by}
-use Rattle.progress_tests.proofs.Begun.{fresh_of}
+use Rattle.new_tables.proofs.Begun.{fresh_of}
 use Rattle.grace_bench.proofs.Holding.{own_process, joined_awake, joined_rests, user_learnt}
 use Rattle.grace_bench.proofs.holds.hold_after.Goals as goal
 

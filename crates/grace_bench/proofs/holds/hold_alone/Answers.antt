@@ -1,6 +1,6 @@
 -- The empty generation alone is published at first, then that of the instance, of which the note tells.
 use Rattle.progress_words.specs.Tokens.{written_by, noted_by}
-use Rattle.progress_tests.proofs.Emptied.{handing_empty}
+use Rattle.new_tables.proofs.Emptied.{handing_empty}
 use Rattle.grace_bench.proofs.Holding.{only_begun, may_tell, tells_now}
 use Rattle.grace_bench.proofs.holds.hold_alone.Goals as goal
 

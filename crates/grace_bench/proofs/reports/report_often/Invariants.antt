@@ -1,5 +1,5 @@
 -- The member is ready to report once more.
-use Rattle.progress_tests.specs.Running.{IsReady}
+use Rattle.new_tables.specs.Running.{IsReady}
 use Rattle.grace_bench.proofs.reports.report_often.Given as goal
 
 abbrev pub invariant-loop : goal.invariant-loop

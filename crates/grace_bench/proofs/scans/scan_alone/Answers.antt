@@ -1,6 +1,6 @@
 -- The empty generation alone is published at first, and the one member is ready.
 use Rattle.std.proofs.Common.{arith}
-use Rattle.progress_tests.proofs.Emptied.{handing_empty}
+use Rattle.new_tables.proofs.Emptied.{handing_empty}
 use Rattle.grace_bench.proofs.Members.{last_ready}
 use Rattle.grace_bench.proofs.scans.scan_alone.Goals as goal
 

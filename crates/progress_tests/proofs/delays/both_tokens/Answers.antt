@@ -1,4 +1,4 @@
-use Rattle.progress_tests.proofs.Begun.{only_begun, only_watcher}
+use Rattle.new_tables.proofs.Begun.{only_begun, only_watcher}
 use Rattle.progress_tests.proofs.delays.both_tokens.Goals as goal
 
 pub returns-clause-member : goal.returns-clause-member

@@ -1,4 +1,4 @@
-use Rattle.progress_tests.proofs.Begun.{first_begun, second_begun}
+use Rattle.new_tables.proofs.Begun.{first_begun, second_begun}
 use Rattle.progress_tests.proofs.waits.both_members.Goals as goal
 
 pub returns-clause-first : goal.returns-clause-first

@@ -1,5 +1,5 @@
 -- The member is ready to report once more.
-use Rattle.progress_tests.specs.Running.{HasReported}
+use Rattle.new_tables.specs.Running.{HasReported}
 use Rattle.progress_tests.proofs.published.grace.report_often.Given as goal
 
 abbrev pub invariant-loop : goal.invariant-loop

@@ -1,5 +1,5 @@
 -- No turn of a member that is ready is under way.
-use Rattle.progress_tests.proofs.Leading.{ready_rests}
+use Rattle.new_tables.proofs.Leading.{ready_rests}
 use Rattle.progress_tests.proofs.published.grace.report_once.Goals as goal
 
 pub report-generation-requires-clause-rest : goal.report-generation-requires-clause-rest

@@ -1,5 +1,5 @@
 -- The empty generation alone is published at first.
-use Rattle.progress_tests.proofs.Emptied.{handing_empty}
+use Rattle.new_tables.proofs.Emptied.{handing_empty}
 use Rattle.progress_tests.proofs.published.grace.run_to_end.Goals as goal
 
 pub run_beside-writer-requires-clause-empty : goal.run_beside-writer-requires-clause-empty

@@ -1,7 +1,7 @@
 -- The empty generation may be published again, and nothing else is published then.
 use Rattle.shared_words.specs.Seats.{writer_of}
 use Rattle.progress_words.specs.Tokens.{written_by}
-use Rattle.progress_tests.proofs.Emptied.{may_publish_empty, still_empty, written_next}
+use Rattle.new_tables.proofs.Emptied.{may_publish_empty, still_empty, written_next}
 use Rattle.progress_tests.proofs.published.publishing.publish.Goals as goal
 
 pub store_root-requires-clause-may : goal.store_root-requires-clause-may
