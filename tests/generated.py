@@ -105,6 +105,14 @@ def instances():
         told + "entry L0 delete i0 = true @56\nentry L0 soft_purge i0 = true @57\n"
         "entry rt release 1 = ok -\nentry L0 load i55.1 = ok @58\n",
     )
+    yield runs(
+        "instance_behind_a_purged_one_has_the_next_serial",
+        lines + "delete i0\nsoft_purge i0\nload i55.1\ndelete i55\nsoft_purge i55\n",
+        60,
+        told + "entry L0 delete i0 = true @56\nentry L0 soft_purge i0 = true @57\n"
+        "entry rt release 1 = ok -\nentry L0 load i55.1 = ok @58\n"
+        "entry L0 delete i55 = true @59\nentry L0 soft_purge i55 = true @60\nentry rt release 56 = ok -\n",
+    )
 
 
 def areas_of_a_process():
@@ -155,6 +163,18 @@ def keys_and_areas():
         + joined("entry L0 put k# 7 = ok @%\n", range(256, 384)) + "entry L0 put k384 7 = system_limit keys -\n"
         "entry L0 put k384 {} = system_limit keys -\nentry L0 erase k0 = true @385\n"
         "entry rt release 1 = ok -\nentry L0 put k384 [] = ok @386\n",
+    )
+
+
+def values_of_keys():
+    """Each of 384 keys holds its own value, and another one none."""
+    body = "pget k0 $0\nprint $0\npget k5 $0\nprint $0\npget k383 $0\nprint $0\npget_or z none $0\nprint $0\npget z $0\n"
+    yield runs(
+        "of_as_many_keys_as_the_limit",
+        f"module m.1\nexport main/0\n{body}end\nloader\n" + joined("put k# #\n", range(384)) + "load m.1\nspawn m:main()\n",
+        385,
+        joined("entry L0 put k# # = ok @%\n", range(384)) + "entry L0 load m.1 = ok @385\nentry L0 spawn m:main() = ok -\n"
+        "process 0 m:main()\nspan 385 1\nprint 0\nprint 5\nprint 383\nprint none\nend badarg\n",
     )
 
 
@@ -376,6 +396,7 @@ GROUPS = (
     instances,
     areas_of_a_process,
     keys_and_areas,
+    values_of_keys,
     loaders_and_processes,
     names,
     functions,
