@@ -6,7 +6,7 @@ _beam() {
     COMPREPLY=()
     if [ "$COMP_CWORD" -le "$first" ]; then
         local words="run check why progress make trial"
-        [ "$first" -eq 1 ] && words="$words --unproved"
+        [ "$first" -eq 1 ] && words="$words rehearse prove --unproved --help --version"
         mapfile -t COMPREPLY < <(compgen -W "$words" -- "$word")
     elif [ "${COMP_WORDS[COMP_CWORD - 1]}" = --schedulers ]; then
         mapfile -t COMPREPLY < <(compgen -W "1 2 3 4 5 6 7 8 9 10 11 12 13 14 15 16" -- "$word")
@@ -32,8 +32,16 @@ _beam_option() {
 _beam_files() {
     local ending=
     case $1.$2 in
+        prove.1)
+            mapfile -t COMPREPLY < <(compgen -W "--anyway" -- "$3")
+            return
+            ;;
         run.1)
             mapfile -t COMPREPLY < <(compgen -W "--schedulers" -- "$3")
+            ending=script
+            ;;
+        rehearse.1)
+            mapfile -t COMPREPLY < <(compgen -W "--times --schedulers --keep --json --limit --jobs" -- "$3")
             ending=script
             ;;
         run.3 | check.1 | why.1) ending=script ;;

@@ -22,6 +22,8 @@ WRAPPER = TOP / "beam"
 PROVED = TOP / "crates/beam_tool/out/beam_tool"
 LIMITS = 4
 SECONDS = 120
+# So many printed or traced lines of a process are told that differ.
+SHOWN_LINES = 5
 
 
 class ProgramFault(Exception):
@@ -32,7 +34,10 @@ class Program:
     """The program that runs scripts and judges reports."""
 
     def __init__(self, file: Optional[Path] = None):
-        self.file = file or Path(os.environ.get("BEAM_PROGRAM") or WRAPPER)
+        named = file or os.environ.get("BEAM_PROGRAM")
+        if not named and subprocess.run([TOP / "tools/build", "--stands"], check=False).returncode:
+            raise ProgramFault("no proved program of these sources stands here: `./beam prove` makes it, or name one by --program")
+        self.file = Path(named or WRAPPER)
 
     def answer(self, words: list[str], text: str) -> tuple[int, str]:
         try:
@@ -134,16 +139,38 @@ def replies(entries: list[tuple[str, str]]) -> dict[str, str]:
 
 
 def differing_entries(mine: list[tuple[str, str]], other: list[tuple[str, str]]) -> Iterator[str]:
-    one, two = replies(mine), replies(other)
-    for command, reply in one.items():
-        answer = two.get(command)
+    """The commands whose replies differ. A command that differs more than once in one way is told once, with its count."""
+    counts: Counter = Counter()
+    first: dict[tuple[str, ...], str] = {}
+    for way, words in entry_differences(replies(mine), replies(other)):
+        counts[way] += 1
+        first.setdefault(way, words)
+    for way, words in first.items():
+        yield words + times(counts[way])
+
+
+def entry_differences(one: dict[str, str], two: dict[str, str]) -> Iterator[tuple[tuple[str, ...], str]]:
+    """Each command whose replies differ: in which way, and in words."""
+    for name, reply in one.items():
+        answer = two.get(name)
         if answer is None:
-            yield f"entry {command}: the program made it, the node did not"
+            yield (command_of(name), "program"), f"entry {name}: the program made it, the node did not"
         elif without_generation(answer) != without_generation(reply):
-            yield f"entry {command}: the program answers {reply}, the node {answer}"
-    for command in two:
-        if command not in one:
-            yield f"entry {command}: the node made it, the program did not"
+            way = command_of(name), without_generation(reply), without_generation(answer)
+            yield way, f"entry {name}: the program answers {reply}, the node {answer}"
+    for name in two:
+        if name not in one:
+            yield (command_of(name), "node"), f"entry {name}: the node made it, the program did not"
+
+
+def command_of(name: str) -> str:
+    """A command without its time."""
+    return name.split(" (time ")[0]
+
+
+def times(count: int) -> str:
+    """How often a difference was met, where that is more than once."""
+    return f"; so {count} times, first here" if count > 1 else ""
 
 
 def without_generation(reply: str) -> str:
@@ -156,9 +183,22 @@ def differing_process(one: Process, two: Process) -> Iterator[str]:
         yield f"in the program it ends as {one.end}, on the node as {two.end}"
     if one.turns != two.turns:
         yield f"it has {one.turns} turns in the program, {two.turns} on the node"
-    for kind, name in (("print", "printed"), ("trace", "traced")):
-        if one.lines(kind) != two.lines(kind):
-            yield f"{name} lines: {len(one.lines(kind))} in the program, {len(two.lines(kind))} on the node"
+    for kind, name in (("print", "prints"), ("trace", "traces")):
+        yield from differing_lines(name, one.lines(kind), two.lines(kind))
+
+
+def differing_lines(name: str, mine: list[str], other: list[str]) -> Iterator[str]:
+    """The lines that differ of those that a process prints or traces, by their places from 1."""
+    places = [place for place in range(max(len(mine), len(other))) if mine[place : place + 1] != other[place : place + 1]]
+    if not places:
+        return
+    shown = [f"{place + 1} is {line_at(mine, place)} in the program, {line_at(other, place)} on the node" for place in places[:SHOWN_LINES]]
+    more = f"; and {len(places) - SHOWN_LINES} more differ" if len(places) > SHOWN_LINES else ""
+    yield f"of the lines that it {name}, {len(mine)} in the program and {len(other)} on the node, {', '.join(shown)}{more}"
+
+
+def line_at(lines: list[str], place: int) -> str:
+    return f"`{lines[place]}`" if place < len(lines) else "none"
 
 
 # ---- what comes of a script

@@ -1,15 +1,18 @@
 """Tests of tools/bench: its scripts, what it reckons from the times of runs, and what it refuses."""
 
 import pathlib
+import shutil
 import stat
+import subprocess
 import sys
 import tempfile
 import unittest
 from unittest import mock
 
-from loading import load_tool
+from loading import TOOLS, load_tool
 
 bench = load_tool("bench")
+sys.path.insert(0, str(TOOLS / "otp"))
 
 
 class Times(unittest.TestCase):
@@ -42,36 +45,80 @@ class Times(unittest.TestCase):
         with self.assertRaisesRegex(SystemExit, "run --schedulers 1 < .*a.script: it ended with status 3"):
             bench.run(self.program("import sys\nsys.exit(3)\n"), 1, self.script())
 
-    def test_least_of_the_runs(self):
-        runs = [bench.Run(3.0, 1.0, 10), bench.Run(2.0, 1.5, 12), bench.Run(2.5, 1.2, 11)]
-        with mock.patch.object(bench, "run", lambda *_: runs.pop()):
-            self.assertEqual(bench.least("a", 1, "a.script", 3), bench.Run(2.0, 1.0, 10))
+    def seconds(self, program, _schedulers, path):
+        """A run whose time is told by what is in its script: a start, and so much for each act."""
+        text = path.read_text(encoding="ascii")
+        count = next(count for count in (10, 110) if f"less $0 {count} again" in text)
+        each = 300e-9 if "call_ext" in text else 100e-9
+        self.order.append((program, "call" if "call_ext" in text else "move", count))
+        return bench.Run(9.0, 0.5 + count * each * (2 if program == "b" else 1), 0)
 
-    def test_row(self):
-        measure = bench.Measure("a call", "ns", bench.calls, bench.two_moves, 1, (10, 110), "120")
-        seconds = {"call_ext": {10: 1.0, 110: 1.00003}, "move 1 $1\nmove 1 $1": {10: 0.5, 110: 0.50001}}
+    MEASURE = bench.Measure("a call", "ns", bench.calls(0), bench.two_moves(0), 1, (10, 110), "call", 0, 1000)
 
-        def run(program, _schedulers, path):
-            text = path.read_text(encoding="ascii")
-            times = next(times for mark, times in seconds.items() if mark in text)
-            time = next(time for count, time in times.items() if f"less $0 {count} again" in text)
-            return bench.Run(9.0, time * (2 if program == "b" else 1), 0)
+    def test_a_row_is_a_difference_of_differences(self):
+        self.order = []
+        with mock.patch.object(bench, "run", self.seconds):
+            self.assertEqual(bench.row(["a"], bench.NoNode(), self.folder, self.MEASURE, 1), "| a call | 200.0 ns (200.0 to 200.0) |")
+            self.assertEqual(bench.row(["a", "b"], bench.NoNode(), self.folder, self.MEASURE, 3),
+                             "| a call | 200.0 ns (200.0 to 200.0) | 400.0 ns (400.0 to 400.0) | 0.50 |")
 
-        with mock.patch.object(bench, "run", run):
-            self.assertEqual(bench.row(["a"], self.folder, measure, 1), "| a call | 200.0 ns | 120 |")
-            self.assertEqual(bench.row(["a", "b"], self.folder, measure, 1), "| a call | 200.0 ns | 400.0 ns | 120 |")
+    def test_runs_are_interleaved(self):
+        self.order = []
+        with mock.patch.object(bench, "run", self.seconds):
+            bench.readings(["a", "b"], bench.NoNode(), self.folder, self.MEASURE, 2)
+        there = [("call", 110), ("call", 10), ("move", 110), ("move", 10)]
+        self.assertEqual([(kind, count) for _, kind, count in self.order], there + there + there[::-1] + there[::-1])
+        self.assertEqual([program for program, _, _ in self.order], ["a"] * 4 + ["b"] * 4 + ["a"] * 4 + ["b"] * 4)
 
-    def test_the_least_time_of_one_program_and_the_median_of_two(self):
-        measure = bench.Measure("a turn", "us", bench.turns, None, 16, (0, 1))
-        for programs, taken in ((["a"], [1.0]), (["a", "b"], [1.5, 4.0])):
-            times = {"a": [1.0, 1.5, 1.5, 3.0, 2.0, 3.0], "b": [1.0, 1.0, 2.0, 5.0, 6.0, 1.0]}
-            with mock.patch.object(bench, "run", lambda program, _schedulers, _path: bench.Run(times[program].pop(0), 9.0, 0)):
-                self.assertEqual(bench.one_more(programs, self.folder, bench.turns, measure, 3), taken)
+    def test_a_node_is_asked_in_each_round(self):
+        asked = []
 
+        class Node:
+            def seconds(self, act, busy, count):
+                asked.append((act, busy, count))
+                return count * 50e-9
+
+        self.order = []
+        with mock.patch.object(bench, "run", self.seconds):
+            self.assertEqual(bench.row(["a"], Node(), self.folder, self.MEASURE, 3),
+                             "| a call | 200.0 ns (200.0 to 200.0) | 50.0 ns (50.0 to 50.0) | 4.00 |")
+            self.assertEqual(asked, [("call", 0, 1000)] * 3)
+            alone = bench.Measure("a call", "ns", bench.calls(0), bench.two_moves(0), 1, (10, 110))
+            self.assertEqual(bench.row(["a"], Node(), self.folder, alone, 1), "| a call | 200.0 ns (200.0 to 200.0) | - | - |")
+
+    def test_the_clock_counts_where_several_schedulers_work(self):
+        with mock.patch.object(bench, "run", lambda *_: bench.Run(3.0, 1.0, 0)):
+            for schedulers, taken in ((1, 1.0), (2, 3.0)):
+                measure = bench.Measure("a turn", "us", bench.turns, None, schedulers, (0, 1))
+                self.assertEqual(bench.Samples(self.folder, measure).seconds("a", self.folder), taken)
+
+    def test_readings(self):
+        self.assertEqual(bench.reading([3.0, 1.0, 2.0]), bench.Reading(2.0, 1.0, 3.0))
+        self.assertEqual(bench.reading([float(each) for each in range(15)]), bench.Reading(7.0, 3.0, 11.0))
+        self.assertEqual([bench.left_out(each) for each in (1, 5, 6, 9, 12, 15, 25)], [0, 0, 0, 1, 2, 3, 7])
+        for read, noise in ((bench.Reading(1, 0.5, 2), False), (bench.Reading(1, -0.5, 2), True), (bench.Reading(-1, -2, -0.5), False)):
+            self.assertEqual(read.is_noise, noise)
+
+    def test_what_cannot_be_told_from_noise_is_said(self):
+        far, near = bench.Reading(2e-6, 1e-6, 3e-6), bench.Reading(1e-6, -1e-6, 3e-6)
+        self.assertEqual(bench.told(far, "us"), "2.0 us (1.0 to 3.0)")
+        self.assertEqual(bench.told(near, "us"), "not told from noise (-1.0 to 3.0 us)")
+        self.assertEqual([bench.times(far, far), bench.times(far, near), bench.times(near, far)], ["1.00", "-", "-"])
+
+    def test_a_delay_with_its_resume(self):
+        seconds = {100_000: [2.0, 1.0], 1_000_000: [2.9, 1.9]}
+        with mock.patch.object(bench, "GRACE", self.script()), mock.patch.object(bench, "ran", lambda _program, words, _path: bench.Run(9.0, seconds[int(words[1])].pop(0), 0)):
+            self.assertEqual(bench.delay_row(self.folder, 2), "| a delay with its resume | 1,000.0 ns (1,000.0 to 1,000.0) |")
+        with mock.patch.object(bench, "GRACE", self.folder / "none"):
+            self.assertIn("crates/grace_bench", bench.delay_row(self.folder, 2))
+
+
+class Scripts(unittest.TestCase):
     def test_scripts_differ_in_what_is_timed(self):
-        with_it, without = bench.calls(7).split("\n"), bench.two_moves(7).split("\n")
+        with_it, without = bench.calls(1)(7).split("\n"), bench.two_moves(1)(7).split("\n")
         self.assertEqual([line for line in with_it if line not in without], ["call_ext n:one/0 $1"])
         self.assertEqual([line for line in without if line not in with_it], ["move 1 $1", "move 1 $1"])
+        self.assertEqual(with_it.count("spawn m:main()"), 2)
 
     def test_processes_stand_on_other_schedulers_than_the_loader(self):
         text = bench.commits(2)(3)
@@ -82,12 +129,15 @@ class Times(unittest.TestCase):
     def test_commands_beneath_busy_processes(self):
         for text, commands in [
             (bench.puts_and_erases(2)(2), ["put limits {10,[20,30]}", "erase limits"] * 2),
+            (bench.puts(2)(2), ["put limits {10,[20,0]}", "put limits {10,[20,1]}"]),
+            (bench.loads(2)(2), ["load f0.1", "load f1.1"]),
             (bench.soft_purges(2)(2), ["load n.1", "soft_purge n"] * 2),
             (bench.lingering(2)(2), [*["check_old m"] * 16, "load m.2", "soft_purge m", "soft_purge m"]),
             (bench.traces(2)(2), ["trace n:none/0 on", "trace n:none/0 off"] * 2),
         ]:
             lines = text.split("\n")
             self.assertEqual(lines[lines.index("spawn n:none()") :], ["spawn n:none()", "spawn m:main()", "spawn m:main()", *commands, "put stop 1", "go", ""])
+        self.assertEqual(bench.lingering(0)(1).count("spawn m:main()"), 1)
 
     def test_observers_beside_commits(self):
         with_them, without = bench.commits_beside(4)(3).split("\n"), bench.commits_beside(0)(3).split("\n")
@@ -95,17 +145,47 @@ class Times(unittest.TestCase):
         self.assertEqual(sum(line.startswith("export f") for line in without), 256)
         self.assertEqual(without[-5:], ["put tick 1", "put tick 2", "put stop 1", "go", ""])
 
-    def test_a_delay_with_its_resume(self):
-        seconds = {100_000: [2.0, 1.0], 1_000_000: [1.9, 1.5]}
-        with mock.patch.object(bench, "GRACE", self.script()), mock.patch.object(bench, "ran", lambda _program, words, _path: bench.Run(9.0, seconds[int(words[1])].pop(0), 0)):
-            self.assertEqual(bench.delay_row(self.folder, 2), "| a delay with its resume | 555.6 ns | - |")
-        with mock.patch.object(bench, "GRACE", self.folder / "none"):
-            self.assertIn("crates/grace_bench", bench.delay_row(self.folder, 2))
-
     def test_one_purge_kills_all_processes(self):
         with_it, without = bench.kills(1).split("\n"), bench.kills(0).split("\n")
         self.assertEqual(with_it.count("spawn m:main()"), 64)
         self.assertEqual([line for line in with_it if line not in without], ["purge m"])
+
+    def test_each_act_is_timed_idle_and_beneath_busy_schedulers(self):
+        asked = [(measure.act, measure.busy) for measure in bench.measures() if measure.act]
+        self.assertEqual(sorted(asked), sorted((act, busy) for busy in bench.BUSY for act in (
+            "call", "pget", "put", "put_erase", "load", "soft_purge", "lingering", "kill", "trace")))
+        self.assertEqual(len({measure.name for measure in bench.measures()}), len(bench.measures()))
+        for measure in bench.measures():
+            self.assertLessEqual(measure.busy, measure.schedulers - 1)
+
+
+class TheProgram(unittest.TestCase):
+    def test_no_measure_of_this_name(self):
+        done = subprocess.run([sys.executable, TOOLS / "bench", "--program", "/bin/true", "--only", "nothing"], capture_output=True, text=True, check=False)
+        self.assertEqual((done.returncode, done.stdout), (2, ""))
+        self.assertIn("no measure has `nothing` in its name; they are:\n  an external call", done.stderr)
+
+    def test_no_program(self):
+        done = subprocess.run([sys.executable, TOOLS / "bench", "--program", "/no/such"], capture_output=True, text=True, check=False)
+        self.assertEqual(done.returncode, 2)
+        self.assertIn("./beam prove", done.stderr)
+
+
+@unittest.skipUnless(shutil.which("erl") and shutil.which("erlc"), "Erlang is not installed")
+class TheNode(unittest.TestCase):
+    def test_each_act_takes_time(self):
+        from timed_node import TimedNodes, release
+
+        self.assertRegex(release(), r"\A\d+\Z")
+        with TimedNodes() as nodes:
+            for act in ("put", "put_erase", "load", "soft_purge", "lingering", "kill", "trace"):
+                with self.subTest(act):
+                    self.assertGreater(nodes.seconds(act, 0, 1), 0)
+            self.assertGreater(nodes.seconds("put", 1, 1), 0)
+            for act in ("call", "pget"):
+                self.assertLess(abs(nodes.seconds(act, 0, 1000)), 10)
+            with self.assertRaises(SystemExit):
+                nodes.seconds("nonsense", 0, 1)
 
 
 if __name__ == "__main__":

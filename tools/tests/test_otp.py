@@ -194,6 +194,52 @@ class Made(unittest.TestCase):
             self.assertIn(len(names), (2, 3, 4))
 
 
+@unittest.skipUnless(nodes.is_installed(), nodes.HOW_TO_INSTALL)
+class WithoutAProgram(unittest.TestCase):
+    """Where no proved program stands, the tools say so, and ask no trial run many times."""
+
+    def test_tools_say_how_to_make_it(self):
+        with tempfile.TemporaryDirectory() as room:
+            top = Path(room) / "top"
+            shutil.copytree(OTP, top / "tools/otp")
+            build = top / "tools/build"
+            build.write_text("#!/bin/sh\nexit 1\n")
+            build.chmod(0o755)
+            given = {name: value for name, value in os.environ.items() if name != "BEAM_PROGRAM"}
+            for tool, words in (("compare", [TOP / "examples/first.script"]), ("survey", ["--count", "1"])):
+                done = subprocess.run([sys.executable, top / "tools/otp" / tool, *words], env=given, capture_output=True, text=True)
+                with self.subTest(tool):
+                    self.assertEqual(done.returncode, 2)
+                    self.assertIn("`./beam prove` makes it", done.stderr)
+
+
+class Differences(unittest.TestCase):
+    """What is said of two reports that differ."""
+
+    def told(self, ours, theirs):
+        return list(comparison.differing(ours, theirs))
+
+    def test_a_repeated_difference_is_told_once_with_its_count(self):
+        report = "beam report 1\ngenerations 3\n{}end report\n"
+        entry = "entry L0 delete m = {} -\n"
+        self.assertEqual(self.told(report.format(entry.format("false") * 5), report.format(entry.format("false") + entry.format("true") * 4)),
+                         ["entry L0 delete m (time 2): the program answers false -, the node true -; so 4 times, first here"])
+        self.assertEqual(self.told(report.format(entry.format("false") * 3), report.format(entry.format("false"))),
+                         ["entry L0 delete m (time 2): the program made it, the node did not; so 2 times, first here"])
+        self.assertEqual(self.told(report.format(""), report.format(entry.format("true"))),
+                         ["entry L0 delete m: the node made it, the program did not"])
+
+    def test_the_printed_lines_that_differ_are_told(self):
+        report = "beam report 1\ngenerations 0\nprocess 0 m:f()\nspan 0 1\n{}end normal\nend report\n"
+        lines = [f"print {number}\n" for number in range(9)]
+        other = [*lines[:2], "print x\n", *lines[3:8]]
+        self.assertEqual(self.told(report.format("".join(lines)), report.format("".join(other))),
+                         ["process 0, m:f(): of the lines that it prints, 9 in the program and 8 on the node, 3 is `print 2` in the program,"
+                          " `print x` on the node, 9 is `print 8` in the program, none on the node"])
+        told = self.told(report.format(""), report.format("".join(lines)))[0]
+        self.assertTrue(told.endswith("5 is none in the program, `print 4` on the node; and 4 more differ"), told)
+
+
 class WithoutErlang(unittest.TestCase):
     """Where Erlang is not installed, the tools say how to install it."""
 

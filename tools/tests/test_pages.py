@@ -47,6 +47,13 @@ class Docs(unittest.TestCase):
             self.assertTrue(script.with_suffix(".report").exists())
             self.assertTrue(f"examples/tutorial/{script.name}" in named, script.name)
 
+    def test_commands_leave_nothing_untracked(self):
+        for page in PAGES:
+            lines = [line for block in blocks(page) for line in block.splitlines() if line.startswith("$ ")]
+            for target in re.findall(r"(?<![<>=-])>>? *([^ \n|&]+)", "\n".join(lines)):
+                with self.subTest(page.name, target=target):
+                    self.assertTrue(target.startswith("/tmp/") or target == "/dev/null", target)
+
     def test_links_lead_somewhere(self):
         for page in PAGES:
             for link in re.findall(r"\]\(([^)#:]+)(?:#[^)]*)?\)", page.read_text()):

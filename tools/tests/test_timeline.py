@@ -1,6 +1,7 @@
 """Tests of tools/timeline: what its pictures say of a run, how wide they are, and what is folded."""
 
 import io
+import json
 import os
 import pathlib
 import re
@@ -242,6 +243,57 @@ class Drawings(unittest.TestCase):
                 lanes[bar.lane] = bar.released
 
 
+class Lives(unittest.TestCase):
+    """The columns of processes in a drawing."""
+
+    ENDS = ("normal", "killed 1", "badarg", "undef m:f/0", "badarith", "system_limit")
+
+    def drawing(self, number):
+        """The drawing of a report with so many processes, each of which has turns under the first and the last generation."""
+        spawns = [f"entry L0 spawn m:main({each}) = ok -" for each in range(number)]
+        lines = [line for each in range(number) for line in (f"process {each} m:main({each})", "span 1 3", "print 7", "span 5 2", f"end {self.ENDS[each % 6]}")]
+        puts = [f"entry L0 put k {each} = ok @{each}" for each in range(2, 6)]
+        picture = timeline.Reader(timeline.MOST_ROWS).read(io.BytesIO(report(5, "entry L0 load m.1 = ok @1", *spawns, *puts, *lines).encode()))
+        return picture, *timeline.laid_out(picture), "\n".join(timeline.svg_picture(picture))
+
+    def test_many_processes_fit_a_screen(self):
+        for number, is_narrow in ((3, False), (20, True), (64, True)):
+            _, sheet, _, drawn = self.drawing(number)
+            self.assertEqual(sheet.is_narrow, is_narrow)
+            self.assertLessEqual(int(re.search(r'width="(\d+)"', drawn)[1]), timeline.SCREEN)
+            self.assertLessEqual(int(re.search(r'height="(\d+)"', drawn)[1]), 1000)
+            lefts = [sheet.left[("process", each)] for each in range(number)]
+            self.assertGreaterEqual(min([b - a for a, b in zip(lefts, lefts[1:])]), timeline.LEAST_LANE)
+
+    def test_a_bar_has_no_gap(self):
+        for number in (3, 64):
+            picture, sheet, _, _ = self.drawing(number)
+            lives = [line for line in timeline.drawn_lives(picture, sheet) if timeline.LIFE_COLOUR in line]
+            self.assertEqual(len(lives), number)
+            for line in lives:
+                top, height = (float(re.search(rf' {name}="([0-9.]+)"', line)[1]) for name in ("y", "height"))
+                self.assertLessEqual(top, sheet.tops[1] + timeline.PAD)
+                self.assertGreaterEqual(top + height, sheet.bottom - timeline.PAD)
+
+    def test_ends_have_the_colours_of_their_kinds(self):
+        kinds = ("normal", "killed", "fault", "fault", "fault", "system_limit")
+        for end, kind in zip(self.ENDS, kinds):
+            self.assertEqual(timeline.end_kind(f"end {end}"), kind)
+            self.assertIn(timeline.END_COLOURS[kind], timeline.colour_of(f"end {end}"))
+        self.assertEqual(len(set(timeline.END_COLOURS.values())), 4)
+        for number in (6, 64):
+            _, _, _, drawn = self.drawing(number)
+            for phrase in ("end normal", "killed by a purge", "end by a fault", "end at a limit"):
+                self.assertIn(f">{phrase}<", drawn)
+        self.assertNotIn("killed by a purge", self.drawing(1)[3])
+
+    def test_a_narrow_column_tells_its_lines(self):
+        drawn = self.drawing(64)[3]
+        self.assertIn("<title>process 63, spawned\n3 turns\nprint 7</title>", drawn)
+        self.assertIn(">63 m:main(63)<", drawn)
+        self.assertEqual([timeline.short_number(each) for each in (7, 9_999, 12_345, 3_000_000)], ["7", "9999", "12k", "3M"])
+
+
 class TheProgram(unittest.TestCase):
     """The tool as it is called."""
 
@@ -271,6 +323,28 @@ class TheProgram(unittest.TestCase):
     def test_no_report(self):
         self.assertEqual(self.call(given="beam script 1\ngo\n").returncode, 2)
         self.assertEqual(self.call("/no/such/file").returncode, 2)
+
+    def test_for_other_programs(self):
+        text = report(900, "entry L0 load m.1 = ok @1", "entry L0 spawn m:main() = ok -",
+                      *(f"entry L0 put k {{{number}}} = ok @{number}" for number in range(2, 901)), "entry rt release 1 = ok -",
+                      "process 0 m:main()", "span 1 3", *["print 1"] * 30, "end normal", "observer 0", "snapshot 2", "export m:main/0 1")
+        told = json.loads(self.call("--json", given=text).stdout)
+        self.assertEqual((told["form"], len(told["generations"]), told["notes"]), (1, 901, []))
+        self.assertEqual(told["columns"], {"process 0": "process 0\nm:main()", "observer 0": "observer 0"})
+        self.assertEqual(told["generations"][1]["server"], ["L0 load m.1 = ok -> serial 1", "L0 spawn m:main() = ok -> process 0"])
+        self.assertEqual(told["generations"][1]["processes"]["0"], ["spawned", "3 turns", *["print 1"] * 30, "end normal"])
+        self.assertEqual(told["generations"][2]["observers"], {"0": ["snapshot", "  m:main/0 of m.1"]})
+        self.assertEqual(told["areas"][0], {"serial": 1, "name": "m.1", "is_code": True, "born": 1, "old": None, "retired": None, "released": 900})
+        self.assertEqual(len(told["areas"]), 900)
+        self.assertEqual(told["areas"][1]["retired"], 3)
+
+    def test_a_full_disk(self):
+        path = str(TOOLS.parent / "examples" / "upgrade.report")
+        for words in ([path], ["--svg", path]):
+            with open("/dev/full", "wb") as full:
+                done = subprocess.run([sys.executable, str(TOOLS / "timeline"), *words], stdout=full, stderr=subprocess.PIPE, check=False)
+            self.assertEqual((done.returncode, done.stderr.count(b"\n")), (5, 1))
+            self.assertIn(b"No space left", done.stderr)
 
     def test_a_report_that_stops(self):
         done = self.call(given="beam report 1\ngenerations 0\nnoise\n")

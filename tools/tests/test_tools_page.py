@@ -20,7 +20,7 @@ class ExamplesOfTheDocs(unittest.TestCase):
         self.blocks = re.findall(r"```\n(\$ .*?)```", text, re.S)
 
     def test_why(self):
-        script, said = re.fullmatch(r"\$ cat bad\.script\n(.*)\$ [^\n]*\n(.*)", self.blocks[0], re.S).groups()
+        script, said = re.fullmatch(r"\$ cat /tmp/bad\.script\n(.*)\$ [^\n]*\n(.*)", self.blocks[0], re.S).groups()
         with tempfile.TemporaryDirectory() as folder:
             path = pathlib.Path(folder) / "bad.script"
             path.write_text(script, encoding="ascii")
@@ -29,11 +29,16 @@ class ExamplesOfTheDocs(unittest.TestCase):
         self.assertEqual(done.stdout, said)
 
     def test_timeline(self):
-        command, said = self.blocks[1].split("\n", 1)
+        command, said = next(block for block in self.blocks if block.startswith("$ tools/timeline")).split("\n", 1)
         words = command.split(" ")[2:]
         done = subprocess.run([sys.executable, TOOLS / "timeline", *words], cwd=TOP, text=True, capture_output=True,
                               check=True)
         self.assertEqual(done.stdout, said)
+
+    def test_lint(self):
+        command, said = next(block for block in self.blocks if block.startswith("$ tools/lint")).split("\n", 1)
+        done = subprocess.run([sys.executable, TOOLS / "lint", command.split(" ")[2]], cwd=TOP, text=True, capture_output=True, check=False)
+        self.assertEqual((done.returncode, done.stdout), (1, said))
 
     def test_number_of_faults(self):
         from faults import FAULTS

@@ -1,5 +1,6 @@
 """Tests of tools/why: each faulty input gets its reason, and no faultless line gets one."""
 
+import json
 import pathlib
 import subprocess
 import sys
@@ -119,6 +120,20 @@ class OtherAnswers(unittest.TestCase):
                         self.assertIn(phrase, "\n".join(told.lines))
                     self.assertEqual((pathlib.Path(folder) / "beam_why.read").read_text(), FIRST)
 
+    def test_a_span_is_named_as_the_report_names_it(self):
+        text = FIRST + HEAD + ENTRIES + "process 0 m:main()\nspan 3 1\nprint 1\nspan 7 2\nprint 2\nend normal\nobserver 1\nsnapshot 4\nexport m:f/0 1\nend report\n"
+        for place, named in (("process 0, span 2, line 9", "process 0, `span 7 2`, line 9"), ("process 0, span 1, line 6", "process 0, `span 3 1`, line 6"),
+                             ("observer 1, snapshot 1, line 13", "observer 1, `snapshot 4`, line 13"), ("entry 1, line 3", "entry 1, line 3"), ("", "")):
+            self.assertEqual(why.place_in_report(text, place), named)
+
+    def test_erlang_source_is_told_as_such_first(self):
+        source = "%% a till\n-module(till).\n-export([open/0]).\nopen() -> ok.\n"
+        for text, phrase in ((source, "this is Erlang source"), ("  -module (a).\n", "this is Erlang source"), ("FOR1\0\0\0\0BEAMAt", "a `.beam` file")):
+            told = why.answer(text, "refused 1 syntax", "auto")
+            self.assertTrue(told.found)
+            self.assertIn(phrase, told.lines[0])
+        self.assertIsNone(why.foreign_answer(FIRST))
+
     def test_no_program_that_names_clauses(self):
         with mock.patch.object(why, "clause_program", lambda: None):
             told = why.answer(FIRST, "not lawful", "auto")
@@ -159,11 +174,25 @@ class TheProgram(unittest.TestCase):
     def test_fault_from_words(self):
         self.assertIn("leading zero", self.call("beam script 1\nloader\nput k 01\ngo\n", "refused", "3", "syntax").stdout)
 
+    def test_for_other_programs(self):
+        told = json.loads(self.call("beam script 1\nloader\nput k 01\ngo\n", "refused", "3", "syntax", "--json").stdout)
+        self.assertEqual((told["form"], told["is_found"], told["line"], told["text"]), (1, True, 3, "script"))
+        self.assertEqual(len(told["reasons"]), 1)
+        self.assertIn("leading zero", told["reasons"][0])
+        told = json.loads(self.call(FIRST, "lawful", "--json").stdout)
+        self.assertEqual((told["is_found"], told["line"], told["reasons"], told["lines"]), (True, None, [], ["nothing was refused"]))
+
     def test_statuses(self):
         self.assertEqual(self.call(FIRST, "refused 3 syntax").returncode, 1)
         missing = subprocess.run([sys.executable, str(TOOLS / "why"), "/no/such/file", "lawful"], capture_output=True,
                                  check=False)
         self.assertEqual(missing.returncode, 2)
+
+    def test_a_file_that_cannot_be_read_has_its_cause(self):
+        for path, cause in (("/no/such/file", "there is no such file"), ("/tmp", "it is a folder"), ("/dev/null/x", "Not a directory")):
+            done = subprocess.run([sys.executable, str(TOOLS / "why"), path, "lawful"], capture_output=True, text=True, check=False)
+            self.assertEqual((done.returncode, done.stderr), (2, f"why: cannot read {path}: {cause}\n"))
+        self.assertEqual(why.unread("a", PermissionError(13, "x")), "cannot read a: it may not be read")
 
 
 if __name__ == "__main__":
